@@ -1,0 +1,30 @@
+-- Whether a number is in a list. Assumes nothing.
+use Prim.Native.Nat.{ℕ}
+use mathlib.Core.Path.{_≡_, refl, sym, _∙_}
+use mathlib.Core.Bool.{Bool, true, false, _||_, false≢true}
+use mathlib.Core.List.{List, [], _∷_}
+use mathlib.Core.Logic.{_⊎_, inl, inr, ⊎-elim}
+use lib.Dec.{eqb}
+use borrow.Author.Tests.{eqb-true, eq-eqb, ne-eqb}
+use Rattle.lists.specs.First.{has}
+use Rattle.lists.proofs.Tests.{or-true, or-right}
+use Rattle.lists.proofs.Members.{In}
+
+pub has-other : (x y : ℕ) (l : List ℕ) → (x ≡ y → ⊥) → has x (y ∷ l) ≡ has x l
+unfolding has
+has-other x y l n = rw (ne-eqb x y n)
+
+pub has-self : (x : ℕ) (l : List ℕ) → has x (x ∷ l) ≡ true
+unfolding has
+has-self x l = rw (eq-eqb x x refl)
+
+pub has-in : (x : ℕ) (l : List ℕ) → has x l ≡ true → In x l
+unfolding has
+has-in x [] h = absurd (false≢true h)
+has-in x (y ∷ l) h = ⊎-elim (λ e. inl (eqb-true x y e)) (λ e. inr (has-in x l e)) (or-true (eqb x y) (has x l) h)
+
+pub in-has : (x : ℕ) (l : List ℕ) → In x l → has x l ≡ true
+unfolding has
+in-has x [] m = absurd m
+in-has x (y ∷ l) (inl e) = rw (eq-eqb x y e)
+in-has x (y ∷ l) (inr m) = or-right (eqb x y) (has x l) (in-has x l m)

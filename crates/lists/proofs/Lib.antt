@@ -1,0 +1,4 @@
+pub mod Tests
+pub mod Members
+pub mod Has
+pub mod Firsts

@@ -1,0 +1,4 @@
+pub mod Care
+pub mod Fit
+pub mod Place
+pub mod Demand

@@ -1,0 +1,178 @@
+-- The * cases of document 01, "Sample units and edges", computed: one table, a field for each line of the page, and one claim, at the end.
+use mathlib.Core.Path.{_≡_, refl}
+use mathlib.Core.Bool.{true}
+use mathlib.Core.List.{List, [], _∷_, _++_, map}
+use Prim.Native.Nat.{ℕ}
+use lib.IntN.{pos, negsuc}
+use lib.ListN.{take, replicate}
+use Rattle.vectors.specs.declared.Kind.{Kind}
+use Rattle.vectors.specs.declared.Kind.the-variants.{One, Two}
+use Rattle.vectors.specs.declared.Part.{Part}
+use Rattle.vectors.specs.declared.Part.the-variants.{Row, Column}
+use Rattle.vectors.specs.declared.Variable.{Variable}
+use Rattle.vectors.specs.Choice.{choose, left}
+use Rattle.rows.specs.Demand.{spread}
+use Rattle.unit.specs.declared.Unit.{Unit as Igu}
+use Rattle.unit.specs.Bounds.{maxVariables}
+use Rattle.unit.specs.Record.{blankVariable, blankUnit}
+use Rattle.unit.specs.Build.{Tables, Outcome, buildChosen, buildGiven, caresFrom}
+use Rattle.unit.specs.Lookup.{found, lookupOf}
+use Rattle.unit.specs.Recover.{recovered, recoverOf}
+
+-- "The list S is 16, 18, 20, 28, 32, 55, 58 (document 004, Table 2.1), n = 6."
+abbrev pub S : List ℕ
+S = 16 ∷ 18 ∷ 20 ∷ 28 ∷ 32 ∷ 55 ∷ 58 ∷ []
+
+-- tables as lent: every word is 9
+abbrev pub lent : ℕ → ℕ → ℕ → Tables
+lent a b c = record { h = replicate a 9; g = replicate b 9; aux = replicate c 9 }
+
+abbrev row : Kind → Variable
+row k = record { kind = k; part = Row }
+
+abbrev column : Kind → Variable
+column k = record { kind = k; part = Column }
+
+-- a caller's variables, all marked row, in 24 places
+abbrev given : List Kind → List Variable
+given ks = take maxVariables (map row ks ++ replicate maxVariables blankVariable)
+
+-- the pairs left after the first variable, the first two, ..
+abbrev lefts : List ℕ → List Kind → List Kind → List ℕ
+lefts vs taken [] = []
+lefts vs taken (k ∷ ks) = left vs (taken ++ (k ∷ [])) ∷ lefts vs (taken ++ (k ∷ [])) ks
+
+-- the unit of the page, lent a word more in each table; and refusals that leave tables
+abbrev printed : ℕ → Outcome
+printed cells = buildChosen 6 2 cells S (lent 5 8 9)
+
+abbrev table41 : ℕ → Outcome
+table41 cells = buildGiven 6 (given (One 4 ∷ One 5 ∷ One 6 ∷ One 1 ∷ One 2 ∷ One 3 ∷ [])) 6 3 cells S (lent 9 9 9)
+
+abbrev refusal : ℕ → ℕ → Tables → Outcome
+refusal number place t = record { built = record { refusal = number; place = place; unit = blankUnit }; tables = t }
+
+pub record Table : Type 0 where
+  -- "S, degree 1: x_2, x_3, x_4, x_5; pairs left 9, 3, 1, 0."
+  pub degree-1 : choose maxVariables 6 1 S ≡ One 2 ∷ One 3 ∷ One 4 ∷ One 5 ∷ []
+  pub degree-1-left : lefts S [] (choose maxVariables 6 1 S) ≡ 9 ∷ 3 ∷ 1 ∷ 0 ∷ []
+  -- "S, degree 2: x_2, x_3, x_4 XOR x_5, as printed above."
+  pub degree-2 : printed 7 ≡ record {
+    built = record {
+      refusal = 0;
+      place = 0;
+      unit = record {
+        n = 6;
+        p = 3;
+        n1 = 2;
+        k = 7;
+        cells = 7;
+        kept = 41;
+        tries = 15;
+        excess = pos 0;
+        variables = row (One 2) ∷ row (One 3) ∷ column (Two 4 5) ∷ replicate 21 blankVariable;
+      };
+    };
+    tables = record {
+      h = 0 ∷ 2 ∷ 4 ∷ 5 ∷ 9 ∷ [];
+      g = 5 ∷ 1 ∷ 7 ∷ 2 ∷ 4 ∷ 3 ∷ 6 ∷ 9 ∷ [];
+      aux = 0 ∷ 0 ∷ 1 ∷ 2 ∷ 10 ∷ 16 ∷ 23 ∷ 25 ∷ 9 ∷ [];
+    };
+  }
+  -- "That unit with L = 6: refusal 13, place 3."
+  pub cells-6 : printed 6 ≡ refusal 13 3 (record { h = replicate 4 0 ++ (9 ∷ []); g = replicate 6 0 ++ (9 ∷ 9 ∷ []); aux = replicate 8 0 ++ (9 ∷ []) })
+  -- "That unit: lookup of 6 is 0; lookup of 20 is 3; recovery of 7 is 58."
+  pub lookup-6 : lookupOf (printed 7 .built .unit) (printed 7 .tables) 6 ≡ found 0
+  pub lookup-20 : lookupOf (printed 7 .built .unit) (printed 7 .tables) 20 ≡ found 3
+  pub recover-7 : recoverOf (printed 7 .built .unit) (printed 7 .tables) 7 ≡ recovered 58
+  -- "S, given x_4, x_5, x_6 as rows and x_1, x_2, x_3 as columns, L = 8: H .., G .. (document 000, Table 4.1), AUX .., tries 8."
+  pub given-8 : table41 8 ≡ record {
+    built = record {
+      refusal = 0;
+      place = 0;
+      unit = record {
+        n = 6;
+        p = 6;
+        n1 = 3;
+        k = 7;
+        cells = 8;
+        kept = 0;
+        tries = 8;
+        excess = pos 3;
+        variables = row (One 4) ∷ row (One 5) ∷ row (One 6) ∷ column (One 1) ∷ column (One 2) ∷ column (One 3) ∷ replicate 18 blankVariable;
+      };
+    };
+    tables = record {
+      h = 0 ∷ 0 ∷ 0 ∷ 1 ∷ 1 ∷ 0 ∷ 0 ∷ 1 ∷ 9 ∷ [];
+      g = 1 ∷ 5 ∷ 2 ∷ 7 ∷ 3 ∷ 4 ∷ 0 ∷ 6 ∷ 9 ∷ [];
+      aux = 0 ∷ 2 ∷ 2 ∷ 2 ∷ 3 ∷ 4 ∷ 6 ∷ 7 ∷ 9 ∷ [];
+    };
+  }
+  -- "The same with L = 7: refusal 13, place 6; with L = 5: refusal 13, place 3."
+  pub given-7 : table41 7 .built ≡ refusal 13 6 (lent 0 0 0) .built
+  pub given-5 : table41 5 .built ≡ refusal 13 3 (lent 0 0 0) .built
+  -- "0, 1, 2, 3 with n = 3, rows x_1, x_2, column x_3, L = 6: H 0 1 2 3, G 1 2 3 4 0 0, tries 10. Demand 3's spread condition holds."
+  pub spread-out : buildGiven 3 (given (One 1 ∷ One 2 ∷ One 3 ∷ [])) 3 2 6 (0 ∷ 1 ∷ 2 ∷ 3 ∷ []) (lent 4 6 5) ≡ record {
+    built = record {
+      refusal = 0;
+      place = 0;
+      unit = record {
+        n = 3;
+        p = 3;
+        n1 = 2;
+        k = 4;
+        cells = 6;
+        kept = 0;
+        tries = 10;
+        excess = pos 0;
+        variables = row (One 1) ∷ row (One 2) ∷ column (One 3) ∷ replicate 21 blankVariable;
+      };
+    };
+    tables = record { h = 0 ∷ 1 ∷ 2 ∷ 3 ∷ []; g = 1 ∷ 2 ∷ 3 ∷ 4 ∷ 0 ∷ 0 ∷ []; aux = 0 ∷ 0 ∷ 1 ∷ 2 ∷ 3 ∷ [] };
+  }
+  pub spread-holds : spread 4 (caresFrom 1 2 (One 1 ∷ One 2 ∷ One 3 ∷ []) (0 ∷ 1 ∷ 2 ∷ 3 ∷ [])) ≡ true
+  -- "16 alone, n = 6, degree 1, L = 1: p = 0, H 0, G 1, AUX 0 16, tries 1, excess -1."
+  pub alone : buildChosen 6 1 1 (16 ∷ []) (lent 1 1 2) ≡ record {
+    built = record {
+      refusal = 0;
+      place = 0;
+      unit = record {
+        n = 6;
+        p = 0;
+        n1 = 0;
+        k = 1;
+        cells = 1;
+        kept = 63;
+        tries = 1;
+        excess = negsuc 0;
+        variables = replicate maxVariables blankVariable;
+      };
+    };
+    tables = record { h = 0 ∷ []; g = 1 ∷ []; aux = 0 ∷ 16 ∷ [] };
+  }
+  -- "5, 5: refusal 7, place 2. 64 with n = 6: refusal 6, place 1."
+  pub equal : buildChosen 6 1 1 (5 ∷ 5 ∷ []) (lent 1 1 3) ≡ refusal 7 2 (lent 1 1 3)
+  pub beyond : buildChosen 6 1 1 (64 ∷ []) (lent 1 1 2) ≡ refusal 6 1 (lent 1 1 2)
+  -- "No vectors: refusal 3."
+  pub empty : buildChosen 6 1 1 [] (lent 1 1 1) ≡ refusal 3 0 (lent 1 1 1)
+
+pub samples : Table
+unfolding choose left buildChosen buildGiven lookupOf recoverOf spread caresFrom
+samples = record {
+  degree-1 = refl;
+  degree-1-left = refl;
+  degree-2 = refl;
+  cells-6 = refl;
+  lookup-6 = refl;
+  lookup-20 = refl;
+  recover-7 = refl;
+  given-8 = refl;
+  given-7 = refl;
+  given-5 = refl;
+  spread-out = refl;
+  spread-holds = refl;
+  alone = refl;
+  equal = refl;
+  beyond = refl;
+  empty = refl;
+}

@@ -1,0 +1,5 @@
+pub mod Bits
+pub mod Variable
+pub mod Choice
+pub mod Span
+pub mod Word
