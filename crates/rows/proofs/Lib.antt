@@ -1,0 +1,2 @@
+pub mod Heaviest
+pub mod Fits
