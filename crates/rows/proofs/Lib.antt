@@ -1,2 +1,4 @@
 pub mod Heaviest
 pub mod Fits
+pub mod Filled
+pub mod Bound
