@@ -5,3 +5,6 @@ pub mod Bound
 pub mod Open
 pub mod Turns
 pub mod Order
+pub mod Spreads
+pub mod Counts
+pub mod Firsts
