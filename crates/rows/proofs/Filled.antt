@@ -62,6 +62,10 @@ filled-none (w ∷ g) zero h = go (eqb w 0) refl
     go false e = absurd (omega (arith, one-pos w (eqb-false w 0 e)))
 filled-none (w ∷ g) (suc i) h = filled-none g i (omega arith)
 
+-- a row of zeros is zero everywhere
+pub blank-zero : (n i : ℕ) → getD (replicate n 0) i 0 ≡ zero
+blank-zero n i = filled-none (replicate n 0) i (filled-blank n)
+
 filled-at : (g : List ℕ) (n : ℕ) → filled (drop n g) ≡ one (getD g n 0) + filled (drop (suc n) g)
 unfolding filled
 filled-at [] zero = refl

@@ -8,3 +8,6 @@ pub mod Order
 pub mod Spreads
 pub mod Counts
 pub mod Firsts
+pub mod Cells
+pub mod Demand3
+pub mod Held

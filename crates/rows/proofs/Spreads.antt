@@ -52,7 +52,6 @@ unfolding spreadIn
 in-spread zero k cs s = refl
 in-spread (suc f) k cs s = rw (le-leb (suc f * heavierIn f cs cs) k (s f)) (in-spread f k cs s)
 
--- the test says the condition for every j
 pub spread-says : (k : ℕ) (cs : List Care) → spread k cs ≡ true → Spread k cs
 unfolding spread
 spread-says k cs h j =
@@ -61,7 +60,6 @@ spread-says k cs h j =
     (λ l. spread-in (length cs) k cs h j l)
     (le-or-lt (length cs) j)
 
--- and holds where the condition does
 pub says-spread : (k : ℕ) (cs : List Care) → Spread k cs → spread k cs ≡ true
 unfolding spread
 says-spread k cs s = in-spread (length cs) k cs s
