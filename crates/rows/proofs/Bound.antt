@@ -2,14 +2,13 @@
 use Prim.Native.Nat.{ℕ, zero, suc, _+_, _*_, _≤_, _<_}
 use native.Mathlib.Nat.{suc-mul}
 use native.Mathlib.Omega.{arith}
-use mathlib.Core.Path.{_≡_, refl, sym, ap, _∙_}
-use mathlib.Core.Bool.{Bool, true, false, _&&_, true≢false}
+use mathlib.Core.Path.{_≡_, refl}
+use mathlib.Core.Bool.{true, false, true≢false}
 use mathlib.Core.List.{List, [], _∷_}
 use mathlib.Core.Logic.{⊎-elim}
-use lib.Dec.{eqb}
 use lib.ListN.{length, getD}
 use borrow.Author.Tests.{eqb-false}
-use Rattle.lists.proofs.Tests.{and-false, le-or-lt}
+use Rattle.lists.proofs.Tests.{and-false}
 use Rattle.rows.specs.Care.{Care}
 use Rattle.rows.specs.Fit.{cellOf, isFree, inside, clear, fitsAt, Fit, at, none, firstFit}
 use Rattle.rows.specs.Demand.{filled}

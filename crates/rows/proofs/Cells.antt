@@ -3,7 +3,7 @@ use Prim.Native.Nat.{ℕ, _+_, _<_}
 use native.Mathlib.Nat.{add-right-cancel}
 use native.Mathlib.Omega.{arith}
 use mathlib.Core.Path.{_≡_, refl, sym, ap, _∙_}
-use mathlib.Core.Bool.{Bool, true, false, _&&_}
+use mathlib.Core.Bool.{Bool, true, false}
 use mathlib.Core.List.{List, [], _∷_}
 use mathlib.Core.Logic.{_⊎_, inl, inr, ⊎-elim}
 use lib.Dec.{eqb, ltb}
@@ -13,10 +13,10 @@ use borrow.Author.Tests.{ltb-true, eqb-true, eqb-false}
 use Rattle.lists.proofs.Tests.{and-true}
 use Rattle.lists.proofs.Members.{In}
 use Rattle.rows.specs.Care.{Care, keep, inRow}
-use Rattle.rows.specs.Fit.{cellOf, isFree, inside, clear, fitsAt, at, firstFit, put}
-use Rattle.rows.specs.Place.{Placed, placeRow, place}
+use Rattle.rows.specs.Fit.{cellOf, isFree, inside, clear, fitsAt, put}
+use Rattle.rows.specs.Place.{place}
 use Rattle.rows.proofs.Fits.{fits-in}
-use Rattle.rows.proofs.Turns.{Next, at-end}
+use Rattle.rows.proofs.Turns.{at-end}
 
 -- ---- the vectors of a row
 

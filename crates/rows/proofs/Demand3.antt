@@ -2,11 +2,11 @@
 use Prim.Native.Nat.{ℕ, _+_, _*_, _≤_, _<_}
 use native.Mathlib.Nat.{le-trans, mul-le-mul-left}
 use native.Mathlib.Omega.{arith}
-use mathlib.Core.Path.{_≡_, refl, sym, ap, _∙_}
-use mathlib.Core.Bool.{Bool, true, false, _&&_, false≢true}
+use mathlib.Core.Path.{_≡_, refl, _∙_}
+use mathlib.Core.Bool.{Bool, true, false, false≢true}
 use mathlib.Core.List.{List, [], _∷_}
 use mathlib.Core.Logic.{⊎-elim}
-use lib.Dec.{eqb, ltb}
+use lib.Dec.{eqb}
 use lib.ListN.{length, getD}
 use borrow.Author.Tests.{lt-ltb}
 use Rattle.lists.specs.First.{has}
@@ -14,14 +14,14 @@ use Rattle.lists.proofs.Has.{has-cons}
 use Rattle.rows.specs.Care.{Care, keep, inRow, weightOf}
 use Rattle.rows.specs.Fit.{cellOf, inside, at, none, firstFit}
 use Rattle.rows.specs.Place.{End, all, noFit, Placing, place}
-use Rattle.rows.specs.Demand.{filled, Ahead, Falling, Once, countIn, Smallest, Bounded, triesOf, boundOf, Spread, spread, Columns}
+use Rattle.rows.specs.Demand.{filled, Ahead, Falling, Once, Smallest, Bounded, triesOf, boundOf, Spread, spread, Columns}
 use Rattle.rows.proofs.Bound.{first-fits}
 use Rattle.rows.proofs.Open.{open-none}
 use Rattle.rows.proofs.Turns.{Next, ended}
 use Rattle.rows.proofs.Order.{ordered}
 use Rattle.rows.proofs.Spreads.{spread-says, says-spread, spread-le}
 use Rattle.rows.proofs.Counts.{counted, tries-le}
-use Rattle.rows.proofs.Firsts.{stacked}
+use Rattle.rows.proofs.Smallest.{stacked}
 use Rattle.rows.proofs.Cells.{cells-length}
 
 ahead-le : (cs : List Care) (q r : ℕ) → Ahead cs q r → weightOf cs r ≤ weightOf cs q
@@ -109,9 +109,9 @@ module _ (cs : List Care) (h g : List ℕ) where
     next-fits columns l c r tried n f =
         let w = length (inRow r cs) * filled (P .state .g) in
         let a : w ≤ k =
-            le-trans
-            (mul-le-mul-left (length (inRow r cs)) (omega (arith, counted cs h g .count)))
-            (spread-le k cs s (P .state .order) r (λ q m. ahead-le cs q r (ordered cs h g .ahead q r m (omega (arith, n .row-in, ordered cs h g .size)) (n .weighs)))) in
+        le-trans
+        (mul-le-mul-left (length (inRow r cs)) (omega (arith, counted cs h g .count)))
+        (spread-le k cs s (P .state .order) r (λ q m. ahead-le cs q r (ordered cs h g .ahead q r m (omega (arith, n .row-in, ordered cs h g .size)) (n .weighs)))) in
         let b = first-fits (P .state .g) (inRow r cs) (columns-inside columns (length (P .state .g)) w (omega (arith, cells-length cs h g)) (inRow r cs) (row-columns columns r cs c)) in
         let z : _≡_ {A = ℕ} 0 1 = cc (b .1) in
         omega arith

@@ -1,21 +1,21 @@
 -- The cells after a placing: every vector lies in its cell, and every cell that was filled holds a vector that leads there. Assumes nothing.
-use Prim.Native.Nat.{ℕ, suc, _+_, _≤_, _<_}
+use Prim.Native.Nat.{ℕ, _+_, _<_}
 use native.Mathlib.Omega.{arith}
 use mathlib.Core.Path.{_≡_, refl, sym, ap, _∙_}
-use mathlib.Core.Bool.{Bool, true, false, _&&_, true≢false, false≢true}
+use mathlib.Core.Bool.{Bool, true, false, true≢false, false≢true}
 use mathlib.Core.List.{List, [], _∷_}
 use mathlib.Core.Logic.{_⊎_, inl, inr, ⊎-elim}
-use lib.Dec.{eqb, ltb}
+use lib.Dec.{ltb}
 use lib.ListN.{length, getD, set}
 use lib.Seq.{getD-set-same, getD-set-other}
-use borrow.Author.Tests.{ltb-true, eqb-true, eqb-false}
+use borrow.Author.Tests.{ltb-true}
 use Rattle.lists.specs.First.{has}
 use Rattle.lists.proofs.Tests.{and-true}
 use Rattle.lists.proofs.Members.{In, in-pos}
 use Rattle.lists.proofs.Has.{has-self, has-other, has-cons}
 use Rattle.rows.specs.Care.{Care, inRow, weightOf, openWeight}
 use Rattle.rows.specs.Fit.{cellOf, inside, at, firstFit, put}
-use Rattle.rows.specs.Place.{Placed, all, placeRow, place}
+use Rattle.rows.specs.Place.{Placed, all, placeRow}
 use Rattle.rows.specs.Demand.{filled}
 use Rattle.rows.proofs.Filled.{filled-none}
 use Rattle.rows.proofs.Fits.{fits-in, fit-at}

@@ -7,7 +7,7 @@ pub mod Turns
 pub mod Order
 pub mod Spreads
 pub mod Counts
-pub mod Firsts
+pub mod Smallest
 pub mod Cells
 pub mod Demand3
 pub mod Held

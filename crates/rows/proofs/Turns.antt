@@ -1,5 +1,5 @@
 -- The placing turn by turn, and what is known at its end. Assumes nothing.
-use Prim.Native.Nat.{ℕ, zero, suc, _+_, _≤_, _<_}
+use Prim.Native.Nat.{ℕ, zero, suc, _≤_, _<_}
 use native.Mathlib.Nat.{eq-zero-or-pos}
 use native.Mathlib.Omega.{arith}
 use mathlib.Core.Path.{_≡_, refl, sym, ap, _∙_}
@@ -10,7 +10,7 @@ use borrow.Author.Tests.{eq-eqb, ne-eqb}
 use Rattle.rows.specs.Care.{Care, inRow, openWeight, Heavy, heaviest}
 use Rattle.rows.specs.Fit.{Fit, at, none, firstFit}
 use Rattle.rows.specs.Place.{Placed, End, all, noFit, Placing, placeRow, placeIn, place}
-use Rattle.rows.proofs.Heaviest.{IsHeaviest, is-heaviest}
+use Rattle.rows.proofs.Heaviest.{is-heaviest}
 use Rattle.rows.proofs.Open.{countOf, count-all, count-none, open-less}
 
 -- the row that is placed next
