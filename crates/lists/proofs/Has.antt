@@ -5,9 +5,9 @@ use mathlib.Core.Bool.{Bool, true, false, _||_, false≢true}
 use mathlib.Core.List.{List, [], _∷_}
 use mathlib.Core.Logic.{_⊎_, inl, inr, ⊎-elim}
 use lib.Dec.{eqb}
-use borrow.Author.Tests.{eqb-true, eq-eqb, ne-eqb}
+use borrow.Author.Tests.{eqb-true, eqb-false, eq-eqb, ne-eqb}
 use Rattle.lists.specs.First.{has}
-use Rattle.lists.proofs.Tests.{or-true, or-right}
+use Rattle.lists.proofs.Tests.{or-true, or-false, or-right}
 use Rattle.lists.proofs.Members.{In}
 
 pub has-other : (x y : ℕ) (l : List ℕ) → (x ≡ y → ⊥) → has x (y ∷ l) ≡ has x l
@@ -28,3 +28,13 @@ unfolding has
 in-has x [] m = absurd m
 in-has x (y ∷ l) (inl e) = rw (eq-eqb x y e)
 in-has x (y ∷ l) (inr m) = or-right (eqb x y) (has x l) (in-has x l m)
+
+-- who is in a list with one more
+pub has-cons : (x y : ℕ) (l : List ℕ) → has x (y ∷ l) ≡ true → (x ≡ y) ⊎ (has x l ≡ true)
+unfolding has
+has-cons x y l h = ⊎-elim (λ e. inl (eqb-true x y e)) (λ e. inr e) (or-true (eqb x y) (has x l) h)
+
+-- who is not
+pub not-cons : (x y : ℕ) (l : List ℕ) → has x (y ∷ l) ≡ false → (x ≡ y → ⊥) × (has x l ≡ false)
+unfolding has
+not-cons x y l h = let o = or-false (eqb x y) (has x l) h in (eqb-false x y (o .0), o .1)

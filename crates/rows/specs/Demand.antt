@@ -3,6 +3,7 @@ use Prim.Native.Nat.{ℕ, zero, suc, _+_, _*_, _≤_, _<_}
 use mathlib.Core.Path.{_≡_}
 use mathlib.Core.Bool.{Bool, true, false, cond, _&&_}
 use mathlib.Core.List.{List, [], _∷_}
+use mathlib.Core.Logic.{_⊎_}
 use lib.Dec.{ltb, leb, eqb}
 use lib.ListN.{getD, length}
 use Rattle.lists.specs.First.{has}
@@ -13,6 +14,22 @@ use Rattle.rows.specs.Fit.{fitsAt, put}
 unfoldable pub filled : List ℕ → ℕ
 filled [] = 0
 filled (w ∷ ws) = cond (eqb w 0) 0 1 + filled ws
+
+-- "Rows with weight above 0 are placed by falling weight, equal weights by rising row number": q comes before r
+abbrev pub Ahead : List Care → ℕ → ℕ → Type 0
+Ahead cs q r = (weightOf cs r < weightOf cs q) ⊎ ((weightOf cs q ≡ weightOf cs r) × (q < r))
+
+-- so with every two of the rows placed; the last placed stands first
+unfoldable pub Falling : List Care → List ℕ → Type 0
+unfolding weightOf has
+Falling cs [] = Unit
+Falling cs (r ∷ before) = ((q : ℕ) → has q before ≡ true → Ahead cs q r) × Falling cs before
+
+-- no row is placed twice
+unfoldable pub Once : List ℕ → Type 0
+unfolding has
+Once [] = Unit
+Once (r ∷ before) = (has r before ≡ false) × Once before
 
 -- how many of the vectors lie in the rows placed
 unfoldable pub countIn : List ℕ → List Care → ℕ

@@ -1,0 +1,13 @@
+pub mod Heaviest
+pub mod Fits
+pub mod Filled
+pub mod Bound
+pub mod Open
+pub mod Turns
+pub mod Order
+pub mod Spreads
+pub mod Counts
+pub mod Smallest
+pub mod Cells
+pub mod Demand3
+pub mod Held
