@@ -1,2 +1,5 @@
 pub mod BitsLaws
 pub mod Numbers
+pub mod Packing
+pub mod Runs
+pub mod WordLaws
