@@ -3,3 +3,5 @@ pub mod Numbers
 pub mod Packing
 pub mod Runs
 pub mod WordLaws
+pub mod Xor
+pub mod Spans
