@@ -5,3 +5,4 @@ pub mod Runs
 pub mod WordLaws
 pub mod Xor
 pub mod Spans
+pub mod Labels
