@@ -1,1 +1,5 @@
 pub mod Tied
+pub mod Edges
+pub mod Count
+pub mod Keep
+pub mod Depend
