@@ -6,3 +6,5 @@ pub mod WordLaws
 pub mod Xor
 pub mod Spans
 pub mod Labels
+pub mod Unique
+pub mod Independent
