@@ -8,3 +8,4 @@ pub mod Spans
 pub mod Labels
 pub mod Unique
 pub mod Independent
+pub mod Vector
