@@ -1,12 +1,12 @@
 -- Bits of a number, their counts, and what a mask picks; places. Each law is over any number of bits. Assumes nothing.
 use Prim.Native.Nat.{ℕ, zero, suc, _+_, _-_, _*_, _/_, _%_, _^_, _≤_, _<_, min}
-use native.Mathlib.Nat.{mod-lt, mod-mod, zero-lt-suc, add-zero, one-mul, mul-mod-left, mod-eq-of-lt, lt-of-le-of-lt}
+use native.Mathlib.Nat.{mod-lt, zero-lt-suc, add-zero, one-mul, mul-mod-left, mod-eq-of-lt, lt-of-le-of-lt, add-comm, mul-comm, mul-one}
 use native.Mathlib.Numerals.{add-one, one-add}
 use native.Mathlib.Omega.{arith}
 use mathlib.Core.Path.{_≡_, refl, sym, ap, ap₂, _∙_, subst}
 use lib.Arith.{bin-ind, lt-one, digits-div, digits-mod}
-use lib.Pow.{pow-pos, pow-add, pow-lt, shr-shr, shr-lt, split}
-use lib.Bits.{bitAnd, bitXor, and-step, xor-shr, xor-mod, and-mod, and-block, and-mask, and-zero-r, and-le-l}
+use lib.Pow.{pow-pos, pow-add, pow-lt, shr-shr, shr-lt, shl-exact, split}
+use lib.Bits.{bitAnd, bitOr, bitXor, or-shifted-r, and-step, xor-shr, xor-mod, and-mod, and-block, and-mask, and-zero-r, and-le-l}
 use lib.Count.{ones, ones-step, ones-cat}
 use Rattle.vectors.specs.Bits.{bit, input, placeOf}
 
@@ -106,6 +106,15 @@ odd-xor = bin-ind (λ x. (a b : ℕ) → ones (bitAnd x (bitXor a b)) % 2 ≡ (o
 pub and-word : (w x m : ℕ) → x < 2 ^ w → bitAnd x (m % 2 ^ w) ≡ bitAnd x m
 and-word w x m h =
     ap (λ (y : ℕ). bitAnd y (m % 2 ^ w)) (sym (mod-eq-of-lt h)) ∙ sym (and-mod x m w) ∙ mod-eq-of-lt (lt-of-le-of-lt (and-le-l x m) h)
+
+-- ---- a digit more in a word of w bits
+
+pub put-digit : (w x j b : ℕ) → x < 2 ^ j → j < w → b < 2 → bitOr x (b * 2 ^ j % 2 ^ w) ≡ x + 2 ^ j * b
+put-digit w x j b h l hb =
+    ap (bitOr x) (shl-exact 1 j w hb (omega arith)) ∙ or-shifted-r b j x h ∙ add-comm (b * 2 ^ j) x ∙ ap (λ (t : ℕ). x + t) (mul-comm b (2 ^ j))
+
+pub put-bit : (w x j : ℕ) → x < 2 ^ j → j < w → bitOr x (1 * 2 ^ j % 2 ^ w) ≡ x + 2 ^ j
+put-bit w x j h l = put-digit w x j 1 h l (omega arith) ∙ ap (λ (t : ℕ). x + t) (mul-one (2 ^ j))
 
 -- ---- inputs and their places
 

@@ -1,21 +1,20 @@
 -- A variable that lowers the number of pairs is no XOR of those taken: dependence never arises in the chosen build. Assumes nothing.
-use Prim.Native.Nat.{ℕ, zero, suc, _+_, _*_, _^_, _<_}
+use Prim.Native.Nat.{ℕ, suc, _+_, _*_, _^_, _≤_, _<_}
 use native.Mathlib.Omega.{arith}
 use mathlib.Core.Path.{_≡_, refl, sym, ap, ap₂, _∙_}
 use mathlib.Core.Bool.{Bool, true, false, cond}
 use mathlib.Core.List.{List, [], _∷_, _++_, map, append-nil}
-use borrow.Author.Tests.{eqb-true, eqb-false, eq-eqb, ne-eqb}
+use borrow.Author.Tests.{eqb-true, eq-eqb}
 use lib.Dec.{eqb}
 use lib.ListN.{length}
 use Rattle.lists.specs.First.{firstIn, firstOf}
-use Rattle.lists.proofs.Tests.{eqb-iff}
 use Rattle.lists.proofs.Firsts.{first-on}
 use Rattle.lists.proofs.NonePass.{none-head}
 use Rattle.vectors.specs.declared.Kind.{Kind}
 use Rattle.vectors.specs.Variable.{maskOf, valueOf, numberOf}
 use Rattle.vectors.specs.Span.{spans, firstDependent}
 use Rattle.vectors.specs.Choice.{count, pairs, left}
-use Rattle.vectors.proofs.Numbers.{number-append, number-lt, parts}
+use Rattle.vectors.proofs.Numbers.{number-append}
 use Rattle.vectors.proofs.Xor.{parity-value}
 use Rattle.vectors.proofs.Spans.{spans-middle}
 use Rattle.vectors.proofs.Unique.{number-alike, alike-span}
@@ -29,26 +28,30 @@ number-snoc : (ks : List Kind) (k : Kind) (x : ℕ) → numberOf (ks ++ (k ∷ [
 unfolding numberOf
 number-snoc ks k x = number-append ks (k ∷ []) x ∙ ap (λ (t : ℕ). numberOf ks x + 2 ^ length ks * t) (omega arith)
 
--- so the vectors agree on the longer list exactly when they do on the shorter
-same-snoc : (ks : List Kind) (k : Kind) → spans (map maskOf ks) (maskOf k) ≡ true → (x y : ℕ)
-    → eqb (numberOf (ks ++ (k ∷ [])) x) (numberOf (ks ++ (k ∷ [])) y) ≡ eqb (numberOf ks x) (numberOf ks y)
-same-snoc ks k s x y =
-    eqb-iff
-    (λ p. parts (2 ^ length ks) (numberOf ks x) (valueOf x k) (numberOf ks y) (valueOf y k) (number-lt ks x) (number-lt ks y)
-    (sym (number-snoc ks k x) ∙ p ∙ number-snoc ks k y) .0)
-    (λ p. number-snoc ks k x ∙ ap₂ (λ (t u : ℕ). t + 2 ^ length ks * u) p (value-alike x y ks k s p) ∙ sym (number-snoc ks k y))
+-- so vectors that agree on the variables agree on the longer list
+number-alike-snoc : (ks : List Kind) (k : Kind) → spans (map maskOf ks) (maskOf k) ≡ true → (x y : ℕ) → numberOf ks x ≡ numberOf ks y
+    → numberOf (ks ++ (k ∷ [])) x ≡ numberOf (ks ++ (k ∷ [])) y
+number-alike-snoc ks k s x y p =
+    number-snoc ks k x ∙ ap₂ (λ (t u : ℕ). t + 2 ^ length ks * u) p (value-alike x y ks k s p) ∙ sym (number-snoc ks k y)
 
--- the number of pairs goes by which numbers are equal alone
-module _ (f g : ℕ → ℕ) (h : (x y : ℕ) → eqb (f x) (f y) ≡ eqb (g x) (g y)) where
-  count-same : (x : ℕ) (vs : List ℕ) → count (f x) (map f vs) ≡ count (g x) (map g vs)
+-- what is equal under g is equal under f: g leaves no more pairs
+module _ (f g : ℕ → ℕ) (finer : (x y : ℕ) → g x ≡ g y → f x ≡ f y) where
+  one-finer : (x y : ℕ) → cond {A = ℕ} (eqb (g x) (g y)) 1 0 ≤ cond (eqb (f x) (f y)) 1 0
+  one-finer x y = go (eqb (g x) (g y)) refl
+    where
+      go : (b : Bool) → eqb (g x) (g y) ≡ b → cond {A = ℕ} b 1 0 ≤ cond (eqb (f x) (f y)) 1 0
+      go true e = rw (eq-eqb (f x) (f y) (finer x y (eqb-true (g x) (g y) e))) (omega arith)
+      go false e = omega arith
+
+  count-finer : (x : ℕ) (vs : List ℕ) → count (g x) (map g vs) ≤ count (f x) (map f vs)
   unfolding count
-  count-same x [] = refl
-  count-same x (v ∷ vs) = ap₂ (λ (b : Bool) (t : ℕ). cond b 1 0 + t) (h x v) (count-same x vs)
+  count-finer x [] = omega arith
+  count-finer x (v ∷ vs) = omega (arith, one-finer x v, count-finer x vs)
 
-  pairs-same : (vs : List ℕ) → pairs (map f vs) ≡ pairs (map g vs)
+  pairs-finer : (vs : List ℕ) → pairs (map g vs) ≤ pairs (map f vs)
   unfolding pairs
-  pairs-same [] = refl
-  pairs-same (v ∷ vs) = ap₂ _+_ (count-same v vs) (pairs-same vs)
+  pairs-finer [] = omega arith
+  pairs-finer (v ∷ vs) = omega (arith, count-finer v vs, pairs-finer vs)
 
 -- ---- one more variable
 
@@ -68,8 +71,5 @@ unfolding firstDependent firstOf left
 lowers-independent vs ks k d h = go (spans (map maskOf ks) (maskOf k)) refl
   where
     go : (b : Bool) → spans (map maskOf ks) (maskOf k) ≡ b → firstIn spans [] (map maskOf (ks ++ (k ∷ []))) 1 ≡ 0
-    go true s =
-        let p : pairs (map (numberOf (ks ++ (k ∷ []))) vs) ≡ pairs (map (numberOf ks) vs) =
-        pairs-same (numberOf (ks ++ (k ∷ []))) (numberOf ks) (same-snoc ks k s) vs in
-        absurd (omega arith)
+    go true s = absurd (omega (arith, pairs-finer (numberOf (ks ++ (k ∷ []))) (numberOf ks) (number-alike-snoc ks k s) vs))
     go false s = first-snoc ks k [] 0 d (rw (append-nil (map maskOf ks)) s)

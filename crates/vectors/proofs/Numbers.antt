@@ -7,14 +7,14 @@ use mathlib.Core.List.{List, [], _∷_, _++_}
 use lib.Arith.{digits-div, digits-mod}
 use lib.Bits.{bitAnd}
 use lib.Count.{ones}
-use lib.ListN.{length, getD, take, drop, length-map, take-append-drop}
+use lib.ListN.{length, getD, take, drop, length-map, length-drop, take-append-drop}
 use lib.Seq.{slice, slice-cons, slice-empty, length-slice, length-take-le, getD-take}
 use Rattle.lists.proofs.Members.{getD-map}
 use Rattle.vectors.specs.declared.Kind.{Kind}
 use Rattle.vectors.specs.declared.Kind.the-variants.{One, Two}
 use Rattle.vectors.specs.declared.Variable.{Variable}
 use Rattle.vectors.specs.Bits.{input, placeOf}
-use Rattle.vectors.specs.Variable.{valueOf, maskOf, numberOf, kindsOf}
+use Rattle.vectors.specs.Variable.{valueOf, maskOf, numberOf, rowOf, columnOf, kindsOf}
 use Rattle.vectors.proofs.BitsLaws.{odd-xor, and-word, input-lt, ones-place}
 
 -- the ones of a vector under a variable's mask are odd exactly when its value is 1
@@ -71,8 +71,12 @@ parts m r q r′ q′ h h′ e =
       sym (digits-div q h) ∙ ap (λ (t : ℕ). t / m) c ∙ digits-div q′ h′,
     )
 
-pub take-number-lt : (i : ℕ) (ks : List Kind) (x : ℕ) → i ≤ length ks → numberOf (take i ks) x < 2 ^ i
-take-number-lt i ks x h = rw length-take-le at (number-lt (take i ks) x)
+-- the row number is below 2^n1, and the column number below 2^n2
+pub row-lt : (n1 : ℕ) (ks : List Kind) (x : ℕ) → n1 ≤ length ks → rowOf n1 ks x < 2 ^ n1
+row-lt n1 ks x h = rw length-take-le at (number-lt (take n1 ks) x)
+
+pub column-lt : (n1 : ℕ) (ks : List Kind) (x : ℕ) → columnOf n1 ks x < 2 ^ (length ks - n1)
+column-lt n1 ks x = rw length-drop at (number-lt (drop n1 ks) x)
 
 -- ---- a loop that goes down through the variables: at i it has the number of those from i up to the end
 

@@ -1,5 +1,5 @@
 -- The variables' values and the kept inputs fix one vector. Assumes nothing.
-use Prim.Native.Nat.{ℕ, zero, suc, _+_, _*_, _/_, _%_, _^_, _≤_, _<_}
+use Prim.Native.Nat.{ℕ, zero, suc, _+_, _*_, _/_, _^_, _≤_, _<_}
 use native.Mathlib.Nat.{mod-lt, zero-lt-suc, zero-add, add-zero, div-one}
 use native.Mathlib.Numerals.{add-one}
 use native.Mathlib.Omega.{arith}
@@ -11,7 +11,7 @@ use lib.ListN.{length}
 use Rattle.lists.proofs.Members.{All}
 use Rattle.vectors.specs.declared.Kind.{Kind}
 use Rattle.vectors.specs.Bits.{bit}
-use Rattle.vectors.specs.Variable.{maskOf, valueOf, numberOf, columnOf}
+use Rattle.vectors.specs.Variable.{maskOf, numberOf, columnOf}
 use Rattle.vectors.specs.Span.{spans, keptIn, kept}
 use Rattle.vectors.specs.Word.{packIn, wordOf}
 use Rattle.vectors.proofs.BitsLaws.{ext}

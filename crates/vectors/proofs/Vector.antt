@@ -1,8 +1,8 @@
 -- The vector that a word and a column fix: there is one, no other, and it is read off from cells. Assumes nothing.
 use Prim.Native.Nat.{ℕ, _+_, _-_, _*_, _/_, _%_, _^_, _≤_, _<_}
-use native.Mathlib.Nat.{mod-lt, mul-comm, zero-add}
+use native.Mathlib.Nat.{mod-lt, mul-comm}
 use native.Mathlib.Omega.{arith}
-use mathlib.Core.Path.{_≡_, refl, sym, ap, ap₂, _∙_}
+use mathlib.Core.Path.{_≡_, sym, ap, ap₂, _∙_}
 use mathlib.Core.Bool.{Bool, true, false, _&&_, true≢false}
 use mathlib.Core.List.{List}
 use mathlib.Core.Logic.{⊎-elim}
@@ -10,16 +10,16 @@ use borrow.Author.Tests.{eqb-true, eq-eqb}
 use lib.Count.{ones}
 use lib.Dec.{eqb}
 use lib.ListN.{length}
-use lib.Pow.{pow-pos, pow-add, shr-lt, shl-exact, split}
+use lib.Pow.{pow-pos, shr-lt, shl-exact, split}
 use Rattle.lists.specs.First.{firstFrom}
 use Rattle.lists.proofs.Tests.{and-true, le-or-lt}
 use Rattle.lists.proofs.Members.{All}
 use Rattle.lists.proofs.Firsts.{FoundFrom, found-from}
 use Rattle.vectors.specs.declared.Kind.{Kind}
-use Rattle.vectors.specs.Variable.{faulty, numberOf, rowOf, columnOf}
+use Rattle.vectors.specs.Variable.{faulty, rowOf, columnOf}
 use Rattle.vectors.specs.Span.{kept, firstDependent}
-use Rattle.vectors.specs.Word.{packIn, wordOf, vectorOf}
-use Rattle.vectors.proofs.Numbers.{number-split, parts, take-number-lt}
+use Rattle.vectors.specs.Word.{wordOf, vectorOf}
+use Rattle.vectors.proofs.Numbers.{number-split, parts, row-lt}
 use Rattle.vectors.proofs.WordLaws.{sum-lt}
 use Rattle.vectors.proofs.Unique.{one-vector}
 use Rattle.vectors.proofs.Labels.Count.{kept-number}
@@ -65,7 +65,7 @@ values-sum w p n1 row column h l hc = ap (λ (t : ℕ). row + t) (shl-exact (p -
 -- ---- sound variables, a word and a column within their bounds
 
 module _ (n n1 : ℕ) (ks : List Kind) (word column : ℕ) (f : All (λ k. faulty n k ≡ false) ks) (e : firstDependent ks ≡ 0) (h : n1 ≤ length ks)
-  (hw : word < 2 ^ (n1 + n - length ks)) (hc : column < 2 ^ (length ks - n1)) where
+    (hw : word < 2 ^ (n1 + n - length ks)) (hc : column < 2 ^ (length ks - n1)) where
   rest-lt : word / 2 ^ n1 < 2 ^ ones (kept n ks)
   rest-lt =
       let k : ones (kept n ks) + length ks ≡ n = kept-number n ks f e in
@@ -81,7 +81,7 @@ module _ (n n1 : ℕ) (ks : List Kind) (word column : ℕ) (f : All (λ k. fault
       (values-lt (length ks) n1 (word % 2 ^ n1) column h (mod-lt word (pow-pos n1)) hc) rest-lt in
       let x : ℕ = readWith n ks d (word % 2 ^ n1 + 2 ^ n1 * column) (word / 2 ^ n1) in
       let p : (rowOf n1 ks x ≡ word % 2 ^ n1) × (columnOf n1 ks x ≡ column) =
-      parts (2 ^ n1) _ _ (word % 2 ^ n1) column (take-number-lt n1 ks x h) (mod-lt word (pow-pos n1)) (sym (number-split ks n1 x h) ∙ r .values) in
+      parts (2 ^ n1) _ _ (word % 2 ^ n1) column (row-lt n1 ks x h) (mod-lt word (pow-pos n1)) (sym (number-split ks n1 x h) ∙ r .values) in
       record {
         below = r .below;
         word-is = ap₂ (λ (t u : ℕ). t + 2 ^ n1 * u) (p .0) (r .rest) ∙ omega (arith, split word n1, mul-comm (2 ^ n1) (word / 2 ^ n1));

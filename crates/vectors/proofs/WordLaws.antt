@@ -1,17 +1,17 @@
 -- The comparison word: its parts, its size, and the sum that makes it. Assumes nothing.
-use Prim.Native.Nat.{ℕ, _+_, _-_, _*_, _/_, _%_, _^_, _≤_, _<_}
+use Prim.Native.Nat.{ℕ, _+_, _-_, _*_, _%_, _^_, _≤_, _<_}
 use native.Mathlib.Nat.{lt-of-lt-of-le, mul-comm, add-comm}
 use native.Mathlib.Omega.{arith}
 use mathlib.Core.Path.{_≡_, sym, ap, ap₂, _∙_}
 use mathlib.Core.List.{List}
-use lib.Arith.{digits-lt, digits-div, digits-mod}
+use lib.Arith.{digits-lt, digits-mod}
 use lib.Pow.{pow-add, pow-mono, shl-exact}
 use lib.ListN.{length}
 use lib.Count.{ones}
 use Rattle.vectors.specs.declared.Kind.{Kind}
 use Rattle.vectors.specs.Variable.{rowOf}
 use Rattle.vectors.specs.Word.{packIn, wordOf}
-use Rattle.vectors.proofs.Numbers.{parts, take-number-lt}
+use Rattle.vectors.proofs.Numbers.{parts, row-lt}
 use Rattle.vectors.proofs.Packing.{pack-lt-ones, pack-more}
 
 -- a low part of i bits and a high part of j bits make a number of i + j
@@ -28,17 +28,13 @@ module _ (n n1 : ℕ) (ks : List Kind) (m x : ℕ) (h : n1 ≤ length ks) where
 
   -- the row number in the lowest n1 bits
   pub word-row : wordOf n n1 ks m x % 2 ^ n1 ≡ rowOf n1 ks x
-  word-row = ap (λ (t : ℕ). t % 2 ^ n1) turned ∙ digits-mod (packIn n m x) (take-number-lt n1 ks x h)
-
-  -- the kept inputs above them
-  pub word-rest : wordOf n n1 ks m x / 2 ^ n1 ≡ packIn n m x
-  word-rest = ap (λ (t : ℕ). t / 2 ^ n1) turned ∙ digits-div (packIn n m x) (take-number-lt n1 ks x h)
+  word-row = ap (λ (t : ℕ). t % 2 ^ n1) turned ∙ digits-mod (packIn n m x) (row-lt n1 ks x h)
 
   -- the word fits w bits
   pub word-lt : (w : ℕ) → m < 2 ^ n → n1 + ones m ≤ w → wordOf n n1 ks m x < 2 ^ w
   unfolding wordOf
   word-lt w k l =
-      lt-of-lt-of-le (sum-lt n1 (ones m) (rowOf n1 ks x) (packIn n m x) (take-number-lt n1 ks x h) (pack-lt-ones n m x k)) (pow-mono {i = n1 + ones m} {j = w} l)
+      lt-of-lt-of-le (sum-lt n1 (ones m) (rowOf n1 ks x) (packIn n m x) (row-lt n1 ks x h) (pack-lt-ones n m x k)) (pow-mono {i = n1 + ones m} {j = w} l)
 
   -- the sum of the row number and of the shifted kept inputs of a word of w bits is the word
   pub word-sum : (w a b : ℕ) → m < 2 ^ n → n ≤ w → n1 + ones m ≤ w → a ≡ rowOf n1 ks x → b ≡ packIn w m x
@@ -54,4 +50,4 @@ module _ (n n1 : ℕ) (ks : List Kind) (m x : ℕ) (h : n1 ≤ length ks) where
 pub word-parts : (n n1 : ℕ) (ks : List Kind) (m x y : ℕ) → n1 ≤ length ks → wordOf n n1 ks m x ≡ wordOf n n1 ks m y
     → (rowOf n1 ks x ≡ rowOf n1 ks y) × (packIn n m x ≡ packIn n m y)
 unfolding wordOf
-word-parts n n1 ks m x y h e = parts (2 ^ n1) _ _ _ _ (take-number-lt n1 ks x h) (take-number-lt n1 ks y h) e
+word-parts n n1 ks m x y h e = parts (2 ^ n1) _ _ _ _ (row-lt n1 ks x h) (row-lt n1 ks y h) e

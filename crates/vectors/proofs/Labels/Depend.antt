@@ -1,15 +1,14 @@
 -- Going through the variables with labels: the first that is an XOR of earlier ones. Assumes nothing.
 use Prim.Native.Nat.{ℕ, suc, _+_, _<_}
 use native.Mathlib.Numerals.{add-one}
-use native.Mathlib.Omega.{arith}
-use mathlib.Core.Path.{_≡_, refl, sym, ap, _∙_}
-use mathlib.Core.Bool.{true, false}
+use mathlib.Core.Path.{_≡_, refl, ap, _∙_}
+use mathlib.Core.Bool.{false}
 use mathlib.Core.List.{List, [], _∷_, map}
 use borrow.Author.Tests.{eq-eqb, ne-eqb}
 use lib.ListN.{length, getD, drop}
 use lib.Seq.{drop-cons, drop-length}
 use Rattle.lists.specs.First.{firstIn, firstOf}
-use Rattle.lists.proofs.Members.{In, All, all-in, getD-in}
+use Rattle.lists.proofs.Members.{All, all-in, getD-in}
 use Rattle.lists.proofs.Firsts.{first-here, first-on}
 use Rattle.vectors.specs.declared.Kind.{Kind}
 use Rattle.vectors.specs.Variable.{maskOf, faulty}

@@ -4,9 +4,9 @@ use native.Mathlib.Nat.{add-zero}
 use native.Mathlib.Numerals.{add-one}
 use native.Mathlib.Omega.{arith}
 use mathlib.Core.Path.{_≡_, refl, sym, ap, _∙_}
-use mathlib.Core.Bool.{Bool, true, false, _||_}
+use mathlib.Core.Bool.{false, _||_}
 use mathlib.Core.List.{List, [], _∷_, _++_, map, append-nil}
-use borrow.Author.Tests.{eqb-false, leb-false, ltb-false}
+use borrow.Author.Tests.{leb-false, ltb-false}
 use lib.Dec.{eqb, leb, ltb}
 use lib.Bits.{xor-zero-r}
 use lib.ListN.{length, getD, drop}
