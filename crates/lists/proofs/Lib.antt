@@ -2,3 +2,5 @@ pub mod Tests
 pub mod Members
 pub mod Has
 pub mod Firsts
+pub mod NonePass
+pub mod InPlace

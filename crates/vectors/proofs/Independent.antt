@@ -1,0 +1,75 @@
+-- A variable that lowers the number of pairs is no XOR of those taken: dependence never arises in the chosen build. Assumes nothing.
+use Prim.Native.Nat.{ℕ, suc, _+_, _*_, _^_, _≤_, _<_}
+use native.Mathlib.Omega.{arith}
+use mathlib.Core.Path.{_≡_, refl, sym, ap, ap₂, _∙_}
+use mathlib.Core.Bool.{Bool, true, false, cond}
+use mathlib.Core.List.{List, [], _∷_, _++_, map, append-nil}
+use borrow.Author.Tests.{eqb-true, eq-eqb}
+use lib.Dec.{eqb}
+use lib.ListN.{length}
+use Rattle.lists.specs.First.{firstIn, firstOf}
+use Rattle.lists.proofs.Firsts.{first-on}
+use Rattle.lists.proofs.NonePass.{none-head}
+use Rattle.vectors.specs.declared.Kind.{Kind}
+use Rattle.vectors.specs.Variable.{maskOf, valueOf, numberOf}
+use Rattle.vectors.specs.Span.{spans, firstDependent}
+use Rattle.vectors.specs.Choice.{count, pairs, left}
+use Rattle.vectors.proofs.Numbers.{number-append}
+use Rattle.vectors.proofs.Xor.{parity-value}
+use Rattle.vectors.proofs.Spans.{spans-middle}
+use Rattle.vectors.proofs.Unique.{number-alike, alike-span}
+
+-- what the variables span has the same value on vectors that agree on them
+value-alike : (x y : ℕ) (ks : List Kind) (k : Kind) → spans (map maskOf ks) (maskOf k) ≡ true → numberOf ks x ≡ numberOf ks y → valueOf x k ≡ valueOf y k
+value-alike x y ks k s h =
+    sym (parity-value x k) ∙ alike-span x y (map maskOf ks) (maskOf k) (number-alike ks x y h) s ∙ parity-value y k
+
+number-snoc : (ks : List Kind) (k : Kind) (x : ℕ) → numberOf (ks ++ (k ∷ [])) x ≡ numberOf ks x + 2 ^ length ks * valueOf x k
+unfolding numberOf
+number-snoc ks k x = number-append ks (k ∷ []) x ∙ ap (λ (t : ℕ). numberOf ks x + 2 ^ length ks * t) (omega arith)
+
+-- so vectors that agree on the variables agree on the longer list
+number-alike-snoc : (ks : List Kind) (k : Kind) → spans (map maskOf ks) (maskOf k) ≡ true → (x y : ℕ) → numberOf ks x ≡ numberOf ks y
+    → numberOf (ks ++ (k ∷ [])) x ≡ numberOf (ks ++ (k ∷ [])) y
+number-alike-snoc ks k s x y p =
+    number-snoc ks k x ∙ ap₂ (λ (t u : ℕ). t + 2 ^ length ks * u) p (value-alike x y ks k s p) ∙ sym (number-snoc ks k y)
+
+-- what is equal under g is equal under f: g leaves no more pairs
+module _ (f g : ℕ → ℕ) (finer : (x y : ℕ) → g x ≡ g y → f x ≡ f y) where
+  one-finer : (x y : ℕ) → cond {A = ℕ} (eqb (g x) (g y)) 1 0 ≤ cond (eqb (f x) (f y)) 1 0
+  one-finer x y = go (eqb (g x) (g y)) refl
+    where
+      go : (b : Bool) → eqb (g x) (g y) ≡ b → cond {A = ℕ} b 1 0 ≤ cond (eqb (f x) (f y)) 1 0
+      go true e = rw (eq-eqb (f x) (f y) (finer x y (eqb-true (g x) (g y) e))) (omega arith)
+      go false e = omega arith
+
+  count-finer : (x : ℕ) (vs : List ℕ) → count (g x) (map g vs) ≤ count (f x) (map f vs)
+  unfolding count
+  count-finer x [] = omega arith
+  count-finer x (v ∷ vs) = omega (arith, one-finer x v, count-finer x vs)
+
+  pairs-finer : (vs : List ℕ) → pairs (map g vs) ≤ pairs (map f vs)
+  unfolding pairs
+  pairs-finer [] = omega arith
+  pairs-finer (v ∷ vs) = omega (arith, count-finer v vs, pairs-finer vs)
+
+-- ---- one more variable
+
+first-snoc : (ks : List Kind) (k : Kind) (ms : List ℕ) (i : ℕ) → firstIn spans ms (map maskOf ks) (suc i) ≡ 0 → spans (map maskOf ks ++ ms) (maskOf k) ≡ false
+    → firstIn spans ms (map maskOf (ks ++ (k ∷ []))) (suc i) ≡ 0
+unfolding firstIn
+first-snoc [] k ms i h s = first-on spans ms (maskOf k) [] (suc i) s
+first-snoc (l ∷ ks) k ms i h s =
+    let d = none-head spans ms (maskOf l) (map maskOf ks) i h in
+    first-on spans ms (maskOf l) (map maskOf (ks ++ (k ∷ []))) (suc i) (d .0)
+    ∙ first-snoc ks k (maskOf l ∷ ms) (suc i) (d .1) (spans-middle (map maskOf ks) (maskOf l) ms (maskOf k) ∙ s)
+
+-- "Each step lowers the number of pairs, so .. dependence never arise[s]": a variable that lowers it keeps the variables independent
+pub lowers-independent : (vs : List ℕ) (ks : List Kind) (k : Kind) → firstDependent ks ≡ 0
+    → left vs (ks ++ (k ∷ [])) < left vs ks → firstDependent (ks ++ (k ∷ [])) ≡ 0
+unfolding firstDependent firstOf left
+lowers-independent vs ks k d h = go (spans (map maskOf ks) (maskOf k)) refl
+  where
+    go : (b : Bool) → spans (map maskOf ks) (maskOf k) ≡ b → firstIn spans [] (map maskOf (ks ++ (k ∷ []))) 1 ≡ 0
+    go true s = absurd (omega (arith, pairs-finer (numberOf (ks ++ (k ∷ []))) (numberOf ks) (number-alike-snoc ks k s) vs))
+    go false s = first-snoc ks k [] 0 d (rw (append-nil (map maskOf ks)) s)
