@@ -1,0 +1,49 @@
+-- The choice step by step: each takes the least, and what holds of each step. Assumes nothing.
+use Prim.Native.Nat.{ℕ, zero, suc, _+_, _≤_, _<_}
+use native.Mathlib.Omega.{arith}
+use mathlib.Core.Path.{_≡_, refl, ap, sym, _∙_}
+use mathlib.Core.Bool.{Bool, true, false}
+use mathlib.Core.List.{List, [], _∷_, _++_}
+use mathlib.Core.Logic.{⊎-elim}
+use lib.ListN.{length, getD, take, length-append, List·getD-append}
+use lib.Seq.{take-append-le, take-at, getD-at}
+use Rattle.lists.proofs.Tests.{le-or-lt}
+use Rattle.vectors.specs.declared.Kind.{Kind}
+use Rattle.vectors.specs.declared.Kind.the-variants.{One}
+use Rattle.vectors.specs.Choice.{leaves, apart, nextOf, chooseIn}
+use Rattle.vectors.specs.Least.{Least}
+use Rattle.vectors.proofs.Choice.Least.{next-least}
+
+-- P of those before and of the next
+abbrev pub Each : (List Kind → Kind → Type 0) → List Kind → Type 0
+Each P ks = (i : ℕ) → i < length ks → P (take i ks) (getD ks i (One 0))
+
+each-more : (P : List Kind → Kind → Type 0) (ks : List Kind) (c : Kind) → Each P ks → P ks c → Each P (ks ++ (c ∷ []))
+each-more P ks c f h i lt = ⊎-elim old new (le-or-lt (suc i) (length ks))
+  where
+    old : suc i ≤ length ks → P (take i (ks ++ (c ∷ []))) (getD (ks ++ (c ∷ [])) i (One 0))
+    old k = rw (take-append-le i ks (c ∷ []) (omega arith), List·getD-append ks (c ∷ []) (One 0) i k) (f i k)
+
+    new : length ks < suc i → P (take i (ks ++ (c ∷ []))) (getD (ks ++ (c ∷ [])) i (One 0))
+    new k =
+        let e : length ks ≡ i = omega (arith, length-append ks (c ∷ [])) in
+        rw (take-at ks (c ∷ []) i e, getD-at ks c [] (One 0) i e) h
+
+module _ (P : List Kind → Kind → Type 0) (cs : List Kind) (vs : List ℕ) (next : (taken : List Kind) → apart vs taken ≡ false → P taken (nextOf cs vs taken)) where
+  choose-from : (f : ℕ) (taken : List Kind) → Each P taken → Each P (chooseIn f cs vs taken)
+  unfolding chooseIn
+  choose-from zero taken h = h
+  choose-from (suc f) taken h = go (apart vs taken) refl (choose-from f (taken ++ (nextOf cs vs taken ∷ [])))
+    where
+      go : (t : Bool) → apart vs taken ≡ t → (Each P (taken ++ (nextOf cs vs taken ∷ [])) → Each P (chooseIn f cs vs (taken ++ (nextOf cs vs taken ∷ []))))
+          → Each P (chooseIn (suc f) cs vs taken)
+      go true e r = rw (e, chooseIn) h
+      go false e r = rw (e, chooseIn) (r (each-more P taken _ h (next taken e)))
+
+  pub choose-each : (f : ℕ) → Each P (chooseIn f cs vs [])
+  choose-each f = choose-from f [] (λ i lt. absurd (omega arith))
+
+-- each variable of the choice is the first candidate of those that leave the fewest pairs
+pub choice-least : (f : ℕ) (cs : List Kind) (vs : List ℕ) → 0 < length cs → (i : ℕ) → i < length (chooseIn f cs vs [])
+    → Least (leaves vs (take i (chooseIn f cs vs []))) cs (getD (chooseIn f cs vs []) i (One 0))
+choice-least f cs vs h = choose-each (λ taken c. Least (leaves vs taken) cs c) cs vs (λ taken e. next-least vs taken cs h) f
