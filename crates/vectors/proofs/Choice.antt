@@ -1,2 +1,4 @@
 pub mod Least
 pub mod Steps
+pub mod Numbers
+pub mod Pairs
