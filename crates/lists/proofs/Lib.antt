@@ -1,5 +1,6 @@
 pub mod Tests
 pub mod Members
+pub mod Joined
 pub mod Has
 pub mod Firsts
 pub mod Repeats

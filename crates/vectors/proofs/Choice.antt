@@ -1,4 +1,6 @@
 pub mod Least
-pub mod Steps
 pub mod Numbers
 pub mod Pairs
+pub mod Candidates
+pub mod Fewer
+pub mod Steps

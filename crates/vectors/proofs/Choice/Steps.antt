@@ -1,18 +1,21 @@
 -- The choice step by step: each takes the least, and what holds of each step. Assumes nothing.
-use Prim.Native.Nat.{ℕ, zero, suc, _+_, _≤_, _<_}
+use Prim.Native.Nat.{ℕ, zero, suc, _+_, _^_, _≤_, _<_}
 use native.Mathlib.Omega.{arith}
 use mathlib.Core.Path.{_≡_, refl, ap, sym, _∙_}
-use mathlib.Core.Bool.{Bool, true, false}
+use mathlib.Core.Bool.{Bool, true, false, true≢false}
 use mathlib.Core.List.{List, [], _∷_, _++_}
 use mathlib.Core.Logic.{⊎-elim}
 use lib.ListN.{length, getD, take, length-append, List·getD-append}
-use lib.Seq.{take-append-le, take-at, getD-at}
+use lib.Seq.{take-suc, take-append-le, take-at, getD-at}
+use borrow.Author.Tests.{eqb-false}
 use Rattle.lists.proofs.Tests.{le-or-lt}
+use Rattle.lists.proofs.Members.{All}
 use Rattle.vectors.specs.declared.Kind.{Kind}
 use Rattle.vectors.specs.declared.Kind.the-variants.{One}
-use Rattle.vectors.specs.Choice.{leaves, apart, nextOf, chooseIn}
+use Rattle.vectors.specs.Choice.{pairs, left, leaves, candidates, apart, nextOf, chooseIn}
 use Rattle.vectors.specs.Least.{Least}
 use Rattle.vectors.proofs.Choice.Least.{next-least}
+use Rattle.vectors.proofs.Choice.Fewer.{fewer}
 
 -- P of those before and of the next
 abbrev pub Each : (List Kind → Kind → Type 0) → List Kind → Type 0
@@ -47,3 +50,52 @@ module _ (P : List Kind → Kind → Type 0) (cs : List Kind) (vs : List ℕ) (n
 pub choice-least : (f : ℕ) (cs : List Kind) (vs : List ℕ) → 0 < length cs → (i : ℕ) → i < length (chooseIn f cs vs [])
     → Least (leaves vs (take i (chooseIn f cs vs []))) cs (getD (chooseIn f cs vs []) i (One 0))
 choice-least f cs vs h = choose-each (λ taken c. Least (leaves vs taken) cs c) cs vs (λ taken e. next-least vs taken cs h) f
+
+-- ---- each step lowers the number of pairs
+
+pub apart-false : (vs : List ℕ) (taken : List Kind) → apart vs taken ≡ false → 0 < left vs taken
+unfolding apart
+apart-false vs taken e = let z : left vs taken ≡ 0 → ⊥ = eqb-false (left vs taken) 0 e in omega (arith, z)
+
+-- each variable of the choice lowers the number of pairs left
+pub choice-falls : (f n degree : ℕ) (vs : List ℕ) → 0 < n → All (λ v. v < 2 ^ n) vs → pairs vs ≡ 0 → (i : ℕ) → i < length (chooseIn f (candidates n degree) vs [])
+    → left vs (take (suc i) (chooseIn f (candidates n degree) vs [])) < left vs (take i (chooseIn f (candidates n degree) vs []))
+choice-falls f n degree vs some low differ i h =
+    rw (take-suc (chooseIn f cs vs []) i (One 0) h) (choose-each (λ taken c. leaves vs taken c < left vs taken) cs vs (λ taken e. fewer n degree vs taken some low differ (apart-false vs taken e)) f i h)
+  where
+    cs : List Kind
+    cs = candidates n degree
+
+-- ---- the choice ends
+
+module _ (cs : List Kind) (vs : List ℕ) where
+  few-from : (f : ℕ) (taken : List Kind) → length (chooseIn f cs vs taken) ≤ length taken + f
+  unfolding chooseIn
+  few-from zero taken = omega arith
+  few-from (suc f) taken = go (apart vs taken) refl (few-from f (taken ++ (nextOf cs vs taken ∷ [])))
+    where
+      go : (t : Bool) → apart vs taken ≡ t → length (chooseIn f cs vs (taken ++ (nextOf cs vs taken ∷ []))) ≤ length (taken ++ (nextOf cs vs taken ∷ [])) + f
+          → length (chooseIn (suc f) cs vs taken) ≤ length taken + suc f
+      go true e r = rw (e, chooseIn) (omega arith)
+      go false e r = rw (e, chooseIn) (omega (arith, length-append taken (nextOf cs vs taken ∷ [])))
+
+  full-from : (f : ℕ) (taken : List Kind) → apart vs (chooseIn f cs vs taken) ≡ false → length (chooseIn f cs vs taken) ≡ length taken + f
+  unfolding chooseIn
+  full-from zero taken h = omega arith
+  full-from (suc f) taken h = go (apart vs taken) refl (full-from f (taken ++ (nextOf cs vs taken ∷ [])))
+    where
+      go : (t : Bool) → apart vs taken ≡ t
+          → (apart vs (chooseIn f cs vs (taken ++ (nextOf cs vs taken ∷ []))) ≡ false → length (chooseIn f cs vs (taken ++ (nextOf cs vs taken ∷ []))) ≡ length (taken ++ (nextOf cs vs taken ∷ [])) + f)
+          → length (chooseIn (suc f) cs vs taken) ≡ length taken + suc f
+      go true e r = let g : apart vs taken ≡ false = rw (e, chooseIn) at h in absurd (true≢false (sym e ∙ g))
+      go false e r =
+          let g : apart vs (chooseIn f cs vs (taken ++ (nextOf cs vs taken ∷ []))) ≡ false = rw (e, chooseIn) at h in
+          rw (e, chooseIn) (omega (arith, r g, length-append taken (nextOf cs vs taken ∷ [])))
+
+  -- at most f variables are taken
+  pub choice-few : (f : ℕ) → length (chooseIn f cs vs []) ≤ f
+  choice-few f = omega (arith, few-from f [])
+
+  -- where two vectors still agree, all f are taken
+  pub choice-full : (f : ℕ) → apart vs (chooseIn f cs vs []) ≡ false → length (chooseIn f cs vs []) ≡ f
+  choice-full f h = omega (arith, full-from f [] h)
