@@ -4,3 +4,6 @@ pub mod Pairs
 pub mod Candidates
 pub mod Fewer
 pub mod Steps
+pub mod Groups
+pub mod Grouped
+pub mod Squares
