@@ -1,9 +1,9 @@
 -- Members of lists joined, and their places. Assumes nothing.
 use Prim.Native.Nat.{ℕ, zero, suc, _<_}
 use native.Mathlib.Omega.{arith}
-use mathlib.Core.Path.{_≡_, refl, sym}
+use mathlib.Core.Path.{_≡_, sym}
 use mathlib.Core.List.{List, [], _∷_, _++_}
-use mathlib.Core.Logic.{_⊎_, inl, inr}
+use mathlib.Core.Logic.{inl, inr}
 use lib.ListN.{length, getD}
 use Rattle.lists.proofs.Members.{In, All}
 
@@ -17,10 +17,6 @@ module _ {A : Type 0} where
   in-left x [] m h = absurd h
   in-left x (y ∷ l) m (inl e) = inl e
   in-left x (y ∷ l) m (inr h) = inr (in-left x l m h)
-
-  pub in-right : (x : A) (l m : List A) → In x m → In x (l ++ m)
-  in-right x [] m h = h
-  in-right x (y ∷ l) m h = inr (in-right x l m h)
 
   pub all-append : (P : A → Type 0) (l m : List A) → All P l → All P m → All P (l ++ m)
   all-append P [] m a b = b

@@ -1,11 +1,11 @@
 -- Each step lowers the number of pairs: two vectors that agree on the taken variables differ at an input. Assumes nothing.
-use Prim.Native.Nat.{ℕ, zero, suc, _+_, _*_, _/_, _%_, _^_, _-_, _≤_, _<_}
+use Prim.Native.Nat.{ℕ, zero, suc, _/_, _%_, _^_, _≤_, _<_}
 use native.Mathlib.Omega.{arith}
 use native.Mathlib.Numerals.{one-add}
 use native.Mathlib.Nat.{pow-succ'}
 use mathlib.Core.Path.{_≡_, refl, ap, sym, _∙_}
 use mathlib.Core.Bool.{Bool, true, false}
-use mathlib.Core.List.{List, [], _∷_, _++_, map}
+use mathlib.Core.List.{List, [], _∷_, _++_}
 use lib.Dec.{eqb}
 use lib.Pow.{shr-shr}
 use borrow.Author.Tests.{eqb-true, eqb-false}
@@ -17,22 +17,10 @@ use Rattle.vectors.specs.Bits.{input}
 use Rattle.vectors.specs.Variable.{valueOf, numberOf}
 use Rattle.vectors.specs.Choice.{pairs, left, leaves, candidates, nextOf}
 use Rattle.vectors.specs.Least.{Least}
-use Rattle.vectors.proofs.Choice.Numbers.{value-lt}
+use Rattle.vectors.proofs.Choice.Numbers.{number-split}
 use Rattle.vectors.proofs.Choice.Pairs.{In2, pairs-fewer, pairs-found}
 use Rattle.vectors.proofs.Choice.Candidates.{candidate-one, candidates-some}
 use Rattle.vectors.proofs.Choice.Least.{next-least}
-
--- ---- numbers over one more variable
-
-number-split : (ws : List Kind) (c : Kind) (u v : ℕ) → numberOf (ws ++ (c ∷ [])) u ≡ numberOf (ws ++ (c ∷ [])) v
-    → (numberOf ws u ≡ numberOf ws v) × (valueOf u c ≡ valueOf v c)
-unfolding numberOf
-number-split [] c u v e = (refl, omega arith)
-number-split (w ∷ ws) c u v e =
-    let a = value-lt u w in
-    let b = value-lt v w in
-    let r = number-split ws c u v (omega arith) in
-    (omega arith, r .1)
 
 -- ---- two different words of n bits differ at an input
 
@@ -61,6 +49,14 @@ differs (suc n) u v a b h = go (eqb (u % 2) (v % 2)) refl (λ p q r. differs n (
         let e : u % 2 ≡ v % 2 = eqb-true (u % 2) (v % 2) p in
         down (r (omega (arith, pow-succ' 2 n)) (omega (arith, pow-succ' 2 n)) (λ q. h (omega arith)))
     go false p r = record { i = 1; from = omega arith; to = omega arith; differ = λ e. eqb-false (u % 2) (v % 2) p (omega arith) }
+
+-- words of n bits are equal where all their inputs are
+pub inputs-same : (n u v : ℕ) → u < 2 ^ n → v < 2 ^ n → ((i : ℕ) → 1 ≤ i → i ≤ n → input u i ≡ input v i) → u ≡ v
+inputs-same n u v a b h = go (eqb u v) refl
+  where
+    go : (t : Bool) → eqb u v ≡ t → u ≡ v
+    go true e = eqb-true u v e
+    go false e = let d = differs n u v a b (eqb-false u v e) in absurd (d .differ (h (d .i) (d .from) (d .to)))
 
 -- ---- the theorem
 

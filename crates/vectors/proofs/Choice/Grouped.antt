@@ -1,17 +1,16 @@
 -- The groups hold all pairs of vectors that agree on the variables taken. Assumes nothing.
-use Prim.Native.Nat.{ℕ, zero, suc, _+_, _*_, _≤_, _<_}
+use Prim.Native.Nat.{ℕ, zero, suc, _+_, _≤_, _<_}
 use native.Mathlib.Omega.{arith}
 use mathlib.Core.Path.{_≡_, refl, ap, sym, _∙_}
 use mathlib.Core.List.{List, [], _∷_, _++_, map, append-nil}
 use lib.ListN.{length, getD}
 use lib.Seq.{append-snoc}
-use borrow.Author.Tests.{eq-eqb}
 use Rattle.lists.proofs.Members.{All}
 use Rattle.vectors.specs.declared.Kind.{Kind}
 use Rattle.vectors.specs.Variable.{valueOf, numberOf}
 use Rattle.vectors.specs.Choice.{count, pairs, left}
 use Rattle.vectors.proofs.Choice.Numbers.{value-lt}
-use Rattle.vectors.proofs.Choice.Groups.{part, pushed, refined, numbers, whole, pairsIn, members, part-all, pushed-all, refined-all, pushed-members, refined-members, pushed-pairs, refine-pairs}
+use Rattle.vectors.proofs.Choice.Groups.{refined, numbers, whole, pairsIn, members, part-all, pushed-all, refined-all, pushed-members, refined-members, pushed-pairs, refine-pairs}
 
 -- ---- the numbers 0 to k - 1
 
@@ -36,12 +35,14 @@ numbers-map f g (x ∷ l) i h =
 
 -- ---- the invariant
 
+-- whatever further variables are taken, the pairs left are those within the groups
 pub record Grouped (vs : List ℕ) (taken : List Kind) (gs : List (List ℕ)) : Type 0 where
   pub says : (ext : List Kind) → left vs (taken ++ ext) ≡ pairsIn (λ i. numberOf ext (getD vs i 0)) gs
   pub many : All (λ g. 2 ≤ length g) gs
   pub low : All (All (λ i. i < length vs)) gs
   pub total : members gs ≤ length vs
 
+-- no variable taken: one group, or none
 pub grouped-none : (vs : List ℕ) → Grouped vs [] (whole (length vs))
 unfolding left pairsIn members
 grouped-none vs =
@@ -56,6 +57,7 @@ grouped-none vs =
     all = numbers (length vs) 0
 
 module _ {vs : List ℕ} {taken : List Kind} {gs : List (List ℕ)} (r : Grouped vs taken gs) where
+  -- one more variable taken
   pub grouped-more : (c : Kind) → Grouped vs (taken ++ (c ∷ [])) (refined (λ i. valueOf (getD vs i 0) c) gs)
   unfolding numberOf
   grouped-more c =
@@ -69,10 +71,11 @@ module _ {vs : List ℕ} {taken : List Kind} {gs : List (List ℕ)} (r : Grouped
       b : ℕ → ℕ
       b i = valueOf (getD vs i 0) c
 
-  pub grouped-left : left vs taken ≡ pairsIn (λ i. 0) gs
+  grouped-left : left vs taken ≡ pairsIn (λ i. 0) gs
   unfolding numberOf
   grouped-left = ap (left vs) (sym (append-nil taken)) ∙ r .says []
 
+  -- no pair is left exactly when no group is
   pub grouped-apart : left vs taken ≡ 0 → gs ≡ []
   unfolding pairsIn pairs count
   grouped-apart e = go gs (r .many) (sym grouped-left ∙ e)

@@ -1,7 +1,7 @@
 -- The fast way of the choice: the vectors' indices in groups that agree on every variable taken, those of fewer than two members dropped. Assumes nothing.
 use Prim.Native.Nat.{ℕ, zero, suc, _+_, _*_, _≤_, _<_}
 use native.Mathlib.Omega.{arith}
-use mathlib.Core.Path.{_≡_, refl, ap, sym, _∙_}
+use mathlib.Core.Path.{_≡_, refl}
 use mathlib.Core.Bool.{Bool, true, false, cond}
 use mathlib.Core.List.{List, [], _∷_, map}
 use lib.Dec.{eqb}
@@ -14,24 +14,25 @@ use Rattle.vectors.specs.Choice.{count, pairs}
 -- ---- splitting groups
 
 -- i before the others, when it is one of them
-abbrev pub joined : Bool → ℕ → List ℕ → List ℕ
+unfoldable pub joined : Bool → ℕ → List ℕ → List ℕ
 joined true i g = i ∷ g
 joined false i g = g
 
 -- the members at which b is v, in order
 unfoldable pub part : (ℕ → ℕ) → ℕ → List ℕ → List ℕ
+unfolding joined
 part b v [] = []
 part b v (i ∷ g) = joined (eqb (b i) v) i (part b v g)
 
 -- a group before the others, unless it has fewer than two members
-abbrev pub pushed : List ℕ → List (List ℕ) → List (List ℕ)
+unfoldable pub pushed : List ℕ → List (List ℕ) → List (List ℕ)
 pushed [] gs = gs
 pushed (i ∷ []) gs = gs
 pushed (i ∷ j ∷ g) gs = (i ∷ j ∷ g) ∷ gs
 
 -- each group split, the members with 0 before those with 1
 unfoldable pub refined : (ℕ → ℕ) → List (List ℕ) → List (List ℕ)
-unfolding part
+unfolding part pushed
 refined b [] = []
 refined b (g ∷ gs) = pushed (part b 0 g) (pushed (part b 1 g) (refined b gs))
 
@@ -85,6 +86,7 @@ parts-length b (i ∷ g) = go (b i) refl (parts-length b g)
     go (suc (suc v)) e r = rw (part-no b 0 i g (λ q. omega arith), part-no b 1 i g (λ q. omega arith)) (omega arith)
 
 pub pushed-all : (P : List ℕ → Type 0) (g : List ℕ) (gs : List (List ℕ)) → (2 ≤ length g → P g) → All P gs → All P (pushed g gs)
+unfolding pushed
 pushed-all P [] gs p a = a
 pushed-all P (i ∷ []) gs p a = a
 pushed-all P (i ∷ j ∷ g) gs p a = (p (omega arith), a)
@@ -97,7 +99,7 @@ refined-all P Q b f (g ∷ gs) a =
     pushed-all Q (part b 0 g) (pushed (part b 1 g) (refined b gs)) (f g 0 (a .0)) (pushed-all Q (part b 1 g) (refined b gs) (f g 1 (a .0)) (refined-all P Q b f gs (a .1)))
 
 pub pushed-members : (g : List ℕ) (gs : List (List ℕ)) → members (pushed g gs) ≤ length g + members gs
-unfolding members
+unfolding members pushed
 pushed-members [] gs = omega arith
 pushed-members (i ∷ []) gs = omega arith
 pushed-members (i ∷ j ∷ g) gs = omega arith
@@ -111,7 +113,7 @@ refined-members b (g ∷ gs) =
 -- ---- the pairs left are the pairs within the split groups
 
 pub pushed-pairs : (h : ℕ → ℕ) (g : List ℕ) (gs : List (List ℕ)) → pairsIn h (pushed g gs) ≡ pairs (map h g) + pairsIn h gs
-unfolding pairsIn pairs
+unfolding pairsIn pairs pushed
 pushed-pairs h [] gs = omega arith
 pushed-pairs h (i ∷ []) gs = omega arith
 pushed-pairs h (i ∷ j ∷ g) gs = refl
@@ -147,6 +149,7 @@ module _ (b h : ℕ → ℕ) (two : (i : ℕ) → b i < 2) where
       go (suc zero) e lt r = rw (part-no b 0 i g (λ q. omega arith), part-yes b 1 i g e, e) (omega (arith, part-count 1 (h i) lt g))
       go (suc (suc v)) e lt r = absurd (omega arith)
 
+  -- pairs that agree on h and on b are the pairs of the split groups that agree on h
   pub refine-pairs : (gs : List (List ℕ)) → pairsIn (λ i. b i + 2 * h i) gs ≡ pairsIn h (refined b gs)
   unfolding pairsIn refined key
   refine-pairs [] = refl

@@ -1,30 +1,23 @@
--- Pairs of equal entries: they depend on which entries are equal alone, a finer map leaves fewer, and none is left exactly when no entry repeats. Assumes nothing.
+-- Pairs of equal entries: a finer map leaves fewer, and none is left exactly when no entry repeats. Assumes nothing.
 use Prim.Native.Nat.{ℕ, zero, suc, _+_, _≤_, _<_}
 use native.Mathlib.Omega.{arith}
-use mathlib.Core.Path.{_≡_, refl, ap, sym, _∙_}
+use mathlib.Core.Path.{_≡_, refl}
 use mathlib.Core.Bool.{Bool, true, false, cond}
-use mathlib.Core.List.{List, [], _∷_, _++_, map}
-use mathlib.Core.Logic.{_⊎_, inl, inr, ⊎-elim}
+use mathlib.Core.List.{List, [], _∷_, map}
+use mathlib.Core.Logic.{_⊎_, inl, inr}
 use lib.Dec.{eqb}
 use lib.ListN.{length, getD}
-use borrow.Author.Tests.{eqb-true, eqb-false, eq-eqb, ne-eqb}
+use borrow.Author.Tests.{eqb-true, eq-eqb, ne-eqb}
 use Rattle.lists.specs.First.{repeated}
-use Rattle.lists.proofs.Members.{In, All}
+use Rattle.lists.proofs.Members.{In}
 use Rattle.lists.proofs.Repeats.{repeated-none, repeated-zero}
 use Rattle.vectors.specs.Choice.{count, pairs}
 
--- ---- two maps that make the same entries equal
+one-is : (a b : ℕ) → a ≡ b → cond {A = ℕ} (eqb a b) 1 0 ≡ 1
+one-is a b e = rw (eq-eqb a b e)
 
-module _ {A : Type 0} (P : A → Type 0) (f g : A → ℕ) (same : (u v : A) → P u → P v → eqb (f u) (f v) ≡ eqb (g u) (g v)) where
-  count-agree : (u : A) → P u → (l : List A) → All P l → count (f u) (map f l) ≡ count (g u) (map g l)
-  unfolding count
-  count-agree u p [] a = refl
-  count-agree u p (v ∷ l) a = rw (same u v p (a .0), count-agree u p l (a .1))
-
-  pub pairs-agree : (l : List A) → All P l → pairs (map f l) ≡ pairs (map g l)
-  unfolding pairs
-  pairs-agree [] a = refl
-  pairs-agree (v ∷ l) a = rw (count-agree v (a .0) l (a .1), pairs-agree l (a .1))
+one-not : (a b : ℕ) → (a ≡ b → ⊥) → cond {A = ℕ} (eqb a b) 1 0 ≡ 0
+one-not a b e = rw (ne-eqb a b e)
 
 -- ---- a finer map leaves fewer pairs
 
@@ -55,13 +48,10 @@ module _ (f g : ℕ → ℕ) (finer : (u v : ℕ) → g u ≡ g v → f u ≡ f 
     count-fewer : (l : List ℕ) → In v l → count (g u) (map g l) < count (f u) (map f l)
     unfolding count
     count-fewer [] m = absurd m
-    count-fewer (x ∷ l) (inl e) =
-        let p : cond {A = ℕ} (eqb (g u) (g x)) 1 0 ≡ 0 = rw (ne-eqb (g u) (g x) (rw e at apart)) in
-        let q : cond {A = ℕ} (eqb (f u) (f x)) 1 0 ≡ 1 = rw (eq-eqb (f u) (f x) (rw e at agree)) in
-        omega (arith, count-finer u l)
+    count-fewer (x ∷ l) (inl e) = omega (arith, count-finer u l, one-not (g u) (g x) (rw e at apart), one-is (f u) (f x) (rw e at agree))
     count-fewer (x ∷ l) (inr m) = omega (arith, count-fewer l m, one-le (finer u x))
 
-    -- .. and strictly fewer where it tells two equal entries apart
+    -- a map that is finer, and tells two equal entries apart, leaves fewer pairs
     pub pairs-fewer : (l : List ℕ) → In2 u v l → pairs (map g l) < pairs (map f l)
     unfolding pairs
     pairs-fewer [] m = absurd m
@@ -95,11 +85,12 @@ module _ (f : ℕ → ℕ) where
     where
       go : (b : Bool) → eqb (f x) (f y) ≡ b → 0 < cond b 1 0 + count (f x) (map f l) → (0 < count (f x) (map f l) → count x l ≡ 0 → Found x l) → Found x (y ∷ l)
       go true p h r =
-          record { v = y; member = inl refl; agree = eqb-true (f x) (f y) p; apart = λ q. let z : cond {A = ℕ} (eqb x y) 1 0 ≡ 1 = rw (eq-eqb x y q) in omega arith }
+          record { v = y; member = inl refl; agree = eqb-true (f x) (f y) p; apart = λ q. omega (arith, one-is x y q) }
       go false p h r =
           let k = r (omega arith) (omega arith) in
           record { v = k .v; member = inr (k .member); agree = k .agree; apart = k .apart }
 
+  -- a pair that f makes equal, in a list with no equal entries
   pub pairs-found : (l : List ℕ) → 0 < pairs (map f l) → pairs l ≡ 0 → Found2 l
   unfolding pairs
   pairs-found [] h e = absurd (omega arith)
@@ -118,12 +109,6 @@ module _ (f : ℕ → ℕ) where
 abbrev Distinct : List ℕ → Type 0
 Distinct xs = (a b : ℕ) → a < b → b < length xs → getD xs a 0 ≡ getD xs b 0 → ⊥
 
-one-is : (a b : ℕ) → a ≡ b → cond {A = ℕ} (eqb a b) 1 0 ≡ 1
-one-is a b e = rw (eq-eqb a b e)
-
-one-not : (a b : ℕ) → (a ≡ b → ⊥) → cond {A = ℕ} (eqb a b) 1 0 ≡ 0
-one-not a b e = rw (ne-eqb a b e)
-
 count-other : (x : ℕ) (xs : List ℕ) → count x xs ≡ 0 → (a : ℕ) → a < length xs → x ≡ getD xs a 0 → ⊥
 unfolding count
 count-other x [] e a h g = omega arith
@@ -135,7 +120,7 @@ unfolding count
 other-count x [] n = refl
 other-count x (y ∷ xs) n = omega (arith, one-not x y (n zero (omega arith)), other-count x xs (λ a h. n (suc a) (omega arith)))
 
-pub pairs-distinct : (xs : List ℕ) → pairs xs ≡ 0 → Distinct xs
+pairs-distinct : (xs : List ℕ) → pairs xs ≡ 0 → Distinct xs
 unfolding pairs
 pairs-distinct [] e a b h k g = omega arith
 pairs-distinct (x ∷ xs) e zero zero h k g = omega arith
@@ -149,8 +134,10 @@ distinct-pairs [] n = refl
 distinct-pairs (x ∷ xs) n =
     omega (arith, other-count x xs (λ a h. n zero (suc a) (omega arith) (omega arith)), distinct-pairs xs (λ a b h k. n (suc a) (suc b) (omega arith) (omega arith)))
 
+-- no entry repeats: no pair is equal
 pub repeated-pairs : (xs : List ℕ) → repeated xs ≡ 0 → pairs xs ≡ 0
 repeated-pairs xs e = distinct-pairs xs (repeated-zero xs e)
 
+-- .. and the other way round
 pub pairs-repeated : (xs : List ℕ) → pairs xs ≡ 0 → repeated xs ≡ 0
 pairs-repeated xs e = repeated-none xs (pairs-distinct xs e)

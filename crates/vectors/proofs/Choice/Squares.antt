@@ -5,7 +5,7 @@ use native.Mathlib.Nat.{zero-add, suc-mul, mul-suc}
 use native.Mathlib.Numerals.{one-add}
 use mathlib.Core.Path.{_≡_, refl, ap, sym, _∙_, fun-ext}
 use mathlib.Core.Bool.{Bool, true, false, cond}
-use mathlib.Core.List.{List, [], _∷_, _++_, map}
+use mathlib.Core.List.{List, [], _∷_, map}
 use lib.Dec.{eqb, ltb}
 use lib.ListN.{length, getD}
 use borrow.Author.Tests.{ltb-true, ltb-false, lt-ltb, le-ltb}
@@ -110,6 +110,7 @@ best-agree f g same [] = refl
 best-agree f g same (c ∷ cs) = fewest-agree f g same c cs
 
 module _ {vs : List ℕ} {taken : List Kind} {gs : List (List ℕ)} (r : Grouped vs taken gs) where
+  -- the squares say what a candidate leaves
   pub squares-leaves : (c : Kind) → squareOf vs gs c ≡ 2 * leaves vs taken c + members gs
   unfolding numberOf
   squares-leaves c =
@@ -117,6 +118,7 @@ module _ {vs : List ℕ} {taken : List Kind} {gs : List (List ℕ)} (r : Grouped
       let e : (λ i. b i + 2 * 0) ≡ b = fun-ext (λ i. omega arith) in
       squares-pairs b (λ i. value-lt (getD vs i 0) c) gs ∙ ap (λ x. 2 * x + members gs) (ap (λ h. pairsIn h gs) (sym e) ∙ sym (r .says (c ∷ [])))
 
+  -- fewer squares exactly when fewer pairs are left
   pub squares-ltb : (c d : Kind) → ltb (squareOf vs gs c) (squareOf vs gs d) ≡ ltb (leaves vs taken c) (leaves vs taken d)
   squares-ltb c d = ltb-scaled (squareOf vs gs c) (squareOf vs gs d) (leaves vs taken c) (leaves vs taken d) (members gs) (squares-leaves c) (squares-leaves d)
 
