@@ -9,3 +9,4 @@ pub mod Labels
 pub mod Unique
 pub mod Independent
 pub mod Vector
+pub mod Choice

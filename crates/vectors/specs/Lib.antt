@@ -1,5 +1,6 @@
 pub mod Bits
 pub mod Variable
 pub mod Choice
+pub mod Least
 pub mod Span
 pub mod Word

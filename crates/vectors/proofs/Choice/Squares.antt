@@ -1,0 +1,128 @@
+-- What a candidate leaves, by squares: of each group, the members with 1 and those with 0, counted and squared. Assumes nothing.
+use Prim.Native.Nat.{ℕ, zero, suc, _+_, _*_, _-_, _≤_, _<_}
+use native.Mathlib.Omega.{arith}
+use native.Mathlib.Nat.{zero-add, suc-mul, mul-suc}
+use native.Mathlib.Numerals.{one-add}
+use mathlib.Core.Path.{_≡_, refl, ap, sym, _∙_, fun-ext}
+use mathlib.Core.Bool.{Bool, true, false, cond}
+use mathlib.Core.List.{List, [], _∷_, map}
+use lib.Dec.{eqb, ltb}
+use lib.ListN.{length, getD}
+use borrow.Author.Tests.{ltb-true, ltb-false, lt-ltb, le-ltb}
+use Rattle.vectors.specs.declared.Kind.{Kind}
+use Rattle.vectors.specs.Variable.{valueOf, numberOf}
+use Rattle.vectors.specs.Choice.{count, pairs, leaves, fewest, bestOf, nextOf}
+use Rattle.vectors.proofs.Choice.Numbers.{value-lt}
+use Rattle.vectors.proofs.Choice.Groups.{pairsIn, members}
+use Rattle.vectors.proofs.Choice.Grouped.{Grouped}
+
+-- the members at which b is 1
+unfoldable pub tally : (ℕ → ℕ) → List ℕ → ℕ
+tally b [] = 0
+tally b (i ∷ g) = b i + tally b g
+
+-- of o members of s, and of the others
+abbrev pub square : ℕ → ℕ → ℕ
+square o s = o * o + (s - o) * (s - o)
+
+unfoldable pub squares : (ℕ → ℕ) → List (List ℕ) → ℕ
+unfolding tally
+squares b [] = 0
+squares b (g ∷ gs) = square (tally b g) (length g) + squares b gs
+
+next-square : (x : ℕ) → suc x * suc x ≡ x * x + 2 * x + 1
+next-square x = omega (arith, suc-mul x (suc x), mul-suc x x)
+
+module _ (b : ℕ → ℕ) (two : (i : ℕ) → b i < 2) where
+  pub tally-le : (g : List ℕ) → tally b g ≤ length g
+  unfolding tally
+  tally-le [] = omega arith
+  tally-le (i ∷ g) = omega (arith, two i, tally-le g)
+
+  tally-ones : (g : List ℕ) → count 1 (map b g) ≡ tally b g
+  unfolding tally count
+  tally-ones [] = refl
+  tally-ones (i ∷ g) = go (b i) (two i) (tally-ones g)
+    where
+      go : (v : ℕ) → v < 2 → count 1 (map b g) ≡ tally b g → cond (eqb 1 v) 1 0 + count 1 (map b g) ≡ v + tally b g
+      go zero h r = omega arith
+      go (suc zero) h r = omega arith
+      go (suc (suc v)) h r = absurd (omega arith)
+
+  tally-zeros : (g : List ℕ) → count 0 (map b g) + tally b g ≡ length g
+  unfolding tally count
+  tally-zeros [] = refl
+  tally-zeros (i ∷ g) = go (b i) (two i) (tally-zeros g)
+    where
+      go : (v : ℕ) → v < 2 → count 0 (map b g) + tally b g ≡ length g → cond (eqb 0 v) 1 0 + count 0 (map b g) + (v + tally b g) ≡ suc (length g)
+      go zero h r = omega arith
+      go (suc zero) h r = omega arith
+      go (suc (suc v)) h r = absurd (omega arith)
+
+  -- over the members with 1 and those with 0
+  squares-sum : (g : List ℕ) → tally b g * tally b g + count 0 (map b g) * count 0 (map b g) ≡ 2 * pairs (map b g) + length g
+  unfolding tally pairs count
+  squares-sum [] = refl
+  squares-sum (i ∷ g) = go (b i) (two i) (squares-sum g)
+    where
+      o : ℕ
+      o = tally b g
+
+      z : ℕ
+      z = count 0 (map b g)
+
+      go : (v : ℕ) → v < 2 → o * o + z * z ≡ 2 * pairs (map b g) + length g
+          → (v + o) * (v + o) + (cond (eqb 0 v) 1 0 + z) * (cond (eqb 0 v) 1 0 + z) ≡ 2 * (count v (map b g) + pairs (map b g)) + suc (length g)
+      go zero h r = rw (zero-add o, one-add z) (omega (arith, next-square z))
+      go (suc zero) h r = rw (one-add o, zero-add z) (omega (arith, next-square o, tally-ones g))
+      go (suc (suc v)) h r = absurd (omega arith)
+
+  -- the squares of a group say how many pairs of it stay
+  pub square-pairs : (g : List ℕ) → square (tally b g) (length g) ≡ 2 * pairs (map b g) + length g
+  square-pairs g = let e : length g - tally b g ≡ count 0 (map b g) = omega (arith, tally-zeros g) in rw e (squares-sum g)
+
+  pub squares-pairs : (gs : List (List ℕ)) → squares b gs ≡ 2 * pairsIn b gs + members gs
+  unfolding squares pairsIn members
+  squares-pairs [] = refl
+  squares-pairs (g ∷ gs) = omega (arith, square-pairs g, squares-pairs gs)
+
+-- ---- comparing squares is comparing what candidates leave
+
+ltb-scaled : (a b c d m : ℕ) → a ≡ 2 * c + m → b ≡ 2 * d + m → ltb a b ≡ ltb c d
+ltb-scaled a b c d m p q = go (ltb c d) refl
+  where
+    go : (t : Bool) → ltb c d ≡ t → ltb a b ≡ t
+    go true e = lt-ltb a b (omega (arith, ltb-true c d e))
+    go false e = le-ltb a b (omega (arith, ltb-false c d e))
+
+-- the squares of a candidate
+abbrev pub squareOf : List ℕ → List (List ℕ) → Kind → ℕ
+squareOf vs gs c = squares (λ i. valueOf (getD vs i 0) c) gs
+
+fewest-agree : (f g : Kind → ℕ) → ((c d : Kind) → ltb (f c) (f d) ≡ ltb (g c) (g d)) → (b : Kind) (cs : List Kind) → fewest f b cs ≡ fewest g b cs
+unfolding fewest
+fewest-agree f g same b [] = refl
+fewest-agree f g same b (c ∷ cs) = ap (λ t. fewest f (cond t c b) cs) (same c b) ∙ fewest-agree f g same (cond (ltb (g c) (g b)) c b) cs
+
+best-agree : (f g : Kind → ℕ) → ((c d : Kind) → ltb (f c) (f d) ≡ ltb (g c) (g d)) → (cs : List Kind) → bestOf f cs ≡ bestOf g cs
+unfolding bestOf
+best-agree f g same [] = refl
+best-agree f g same (c ∷ cs) = fewest-agree f g same c cs
+
+module _ {vs : List ℕ} {taken : List Kind} {gs : List (List ℕ)} (r : Grouped vs taken gs) where
+  -- the squares say what a candidate leaves
+  pub squares-leaves : (c : Kind) → squareOf vs gs c ≡ 2 * leaves vs taken c + members gs
+  unfolding numberOf
+  squares-leaves c =
+      let b : ℕ → ℕ = λ i. valueOf (getD vs i 0) c in
+      let e : (λ i. b i + 2 * 0) ≡ b = fun-ext (λ i. omega arith) in
+      squares-pairs b (λ i. value-lt (getD vs i 0) c) gs ∙ ap (λ x. 2 * x + members gs) (ap (λ h. pairsIn h gs) (sym e) ∙ sym (r .says (c ∷ [])))
+
+  -- fewer squares exactly when fewer pairs are left
+  pub squares-ltb : (c d : Kind) → ltb (squareOf vs gs c) (squareOf vs gs d) ≡ ltb (leaves vs taken c) (leaves vs taken d)
+  squares-ltb c d = ltb-scaled (squareOf vs gs c) (squareOf vs gs d) (leaves vs taken c) (leaves vs taken d) (members gs) (squares-leaves c) (squares-leaves d)
+
+  -- the candidate with the least squares is the next of the choice
+  pub squares-next : (cs : List Kind) → bestOf (squareOf vs gs) cs ≡ nextOf cs vs taken
+  unfolding nextOf
+  squares-next cs = best-agree (squareOf vs gs) (leaves vs taken) squares-ltb cs
