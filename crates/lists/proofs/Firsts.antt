@@ -2,11 +2,15 @@
 use Prim.Native.Nat.{ℕ, zero, suc, _+_, _≤_, _<_}
 use native.Mathlib.Nat.{eq-or-lt-of-le}
 use native.Mathlib.Omega.{arith}
-use mathlib.Core.Path.{_≡_, refl, sym, ap, _∙_}
+use mathlib.Core.Path.{_≡_, refl, sym, _∙_}
 use mathlib.Core.Bool.{Bool, true, false}
 use mathlib.Core.List.{List, [], _∷_}
 use mathlib.Core.Logic.{⊎-elim}
-use Rattle.lists.specs.First.{firstIn, firstFrom}
+use native.Mathlib.Numerals.{add-one}
+use lib.ListN.{length, getD, drop, drop-of-length-le}
+use lib.Seq.{drop-cons}
+use Rattle.lists.specs.First.{firstIn, firstOf, firstFrom}
+use Rattle.lists.proofs.Members.{All}
 
 module _ {A : Type 0} (test : List A → A → Bool) where
   pub first-here : (before : List A) (x : A) (xs : List A) (i : ℕ) → test before x ≡ true → firstIn test before (x ∷ xs) i ≡ i
@@ -18,7 +22,48 @@ module _ {A : Type 0} (test : List A → A → Bool) where
   unfolding firstIn
   first-on before x xs i h = rw (h, firstIn)
 
--- what the search over numbers finds: none before it passes, and it does, unless it is the end
+none-in : {A : Type 0} (test : A → Bool) (before xs : List A) (i : ℕ) → firstIn (λ before x. test x) before xs (suc i) ≡ 0 → All (λ x. test x ≡ false) xs
+none-in test before [] i e = tt
+none-in {A} test before (x ∷ xs) i e = go (test x) refl (none-in test (x ∷ before) xs (suc i))
+  where
+    go : (t : Bool) → test x ≡ t → (firstIn (λ before x. test x) (x ∷ before) xs (suc (suc i)) ≡ 0 → All (λ x. test x ≡ false) xs) → All (λ x. test x ≡ false) (x ∷ xs)
+    go true p r = let z : suc i ≡ 0 = sym (first-here (λ before x. test x) before x xs (suc i) p) ∙ e in absurd (omega arith)
+    go false p r = (p, r (sym (first-on (λ before x. test x) before x xs (suc i) p) ∙ e))
+
+-- none is found: none passes, where the test looks at the entry alone
+pub first-none : {A : Type 0} (test : A → Bool) (xs : List A) → firstOf (λ before x. test x) xs ≡ 0 → All (λ x. test x ≡ false) xs
+unfolding firstOf
+first-none test xs e = none-in test [] xs 0 e
+
+-- ---- a loop that seeks it: i entries were passed
+
+pub record Seek {A : Type 0} (test : List A → A → Bool) (xs : List A) (i : ℕ) : Type 0 where
+  pub before : List A
+  pub rest : firstIn test before (drop i xs) (suc i) ≡ firstOf test xs
+
+module _ {A : Type 0} (test : List A → A → Bool) (xs : List A) where
+  pub seek-start : Seek test xs 0
+  unfolding firstOf
+  seek-start = record { before = []; rest = refl }
+
+  pub seek-end : (i : ℕ) → length xs ≤ i → Seek test xs i → 0 ≡ firstOf test xs
+  unfolding firstIn
+  seek-end i h s = sym (rw (drop-of-length-le xs h)) ∙ s .rest
+
+  module _ (d : A) (i : ℕ) (h : i < length xs) (s : Seek test xs i) where
+    pub seek-here : test (s .before) (getD xs i d) ≡ true → i + 1 ≡ firstOf test xs
+    seek-here e = add-one i ∙ sym (rw (drop-cons xs i d h) (first-here test (s .before) (getD xs i d) (drop (suc i) xs) (suc i) e)) ∙ s .rest
+
+    pub seek-on : test (s .before) (getD xs i d) ≡ false → Seek test xs (i + 1)
+    seek-on e =
+        record {
+          before = getD xs i d ∷ s .before;
+          rest = rw (add-one i) (sym (rw (drop-cons xs i d h) (first-on test (s .before) (getD xs i d) (drop (suc i) xs) (suc i) e)) ∙ s .rest);
+        }
+
+-- ---- a search over numbers
+
+-- none before it passes, and it does, unless it is the end
 pub record FoundFrom (test : ℕ → Bool) (d x r : ℕ) : Type 0 where
   pub low : x ≤ r
   pub high : r ≤ x + d

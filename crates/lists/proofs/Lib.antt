@@ -1,8 +1,9 @@
 pub mod Tests
 pub mod Members
 pub mod Joined
+pub mod Alls
 pub mod Has
 pub mod Firsts
+pub mod Repeats
 pub mod NonePass
 pub mod InPlace
-pub mod Repeats

@@ -2,10 +2,10 @@
 use Prim.Native.Nat.{ℕ, zero, suc, _+_, _<_}
 use native.Mathlib.Omega.{arith}
 use native.Mathlib.Numerals.{add-one}
-use mathlib.Core.Path.{_≡_, refl, sym, ap, _∙_}
+use mathlib.Core.Path.{_≡_, refl, ap, ap₂}
 use mathlib.Core.List.{List, [], _∷_, _++_, map}
 use mathlib.Core.Logic.{_⊎_, inl, inr}
-use lib.ListN.{length, getD, take}
+use lib.ListN.{length, getD, take, drop}
 use lib.Seq.{take-suc}
 
 abbrev pub In : {A : Type 0} → A → List A → Type 0
@@ -42,3 +42,22 @@ map-map g f (x ∷ xs) = ap (λ (t : List _). g (f x) ∷ t) (map-map g f xs)
 
 pub take-more : {A : Type 0} (l : List A) (i : ℕ) (d : A) → i < length l → take (i + 1) l ≡ take i l ++ (getD l i d ∷ [])
 take-more l i d h = rw (add-one, take-suc l i d)
+
+pub map-take {ℓ ℓ′} : {A : Type ℓ} {B : Type ℓ′} (f : A → B) (i : ℕ) (l : List A) → map f (take i l) ≡ take i (map f l)
+map-take f zero l = refl
+map-take f (suc i) [] = refl
+map-take f (suc i) (x ∷ l) = ap (λ (t : List _). f x ∷ t) (map-take f i l)
+
+pub map-drop {ℓ ℓ′} : {A : Type ℓ} {B : Type ℓ′} (f : A → B) (i : ℕ) (l : List A) → map f (drop i l) ≡ drop i (map f l)
+map-drop f zero l = refl
+map-drop f (suc i) [] = refl
+map-drop f (suc i) (x ∷ l) = map-drop f i l
+
+-- two functions that agree on every entry
+pub map-same : {A B : Type 0} (f g : A → B) (P : A → Type 0) → ((x : A) → P x → f x ≡ g x) → (l : List A) → All P l → map f l ≡ map g l
+map-same f g P h [] a = refl
+map-same f g P h (x ∷ l) a = ap₂ (λ (y : _) (t : List _). y ∷ t) (h x (a .0)) (map-same f g P h l (a .1))
+
+pub all-map : {A : Type 0} (P Q : A → Type 0) → ((x : A) → P x → Q x) → (l : List A) → All P l → All Q l
+all-map P Q h [] a = tt
+all-map P Q h (x ∷ l) a = (h x (a .0), all-map P Q h l (a .1))

@@ -1,10 +1,11 @@
 -- What a test with && or || says, and tests of numbers. Assumes nothing.
-use Prim.Native.Nat.{ℕ, _≤_, _<_}
+use Prim.Native.Nat.{ℕ, suc, _≤_, _<_}
+use native.Mathlib.Omega.{arith}
 use mathlib.Core.Path.{_≡_, refl, sym}
 use mathlib.Core.Bool.{Bool, true, false, _&&_, _||_, true≢false, false≢true}
 use mathlib.Core.Logic.{_⊎_, inl, inr}
-use lib.Dec.{eqb, leb}
-use borrow.Author.Tests.{eqb-true, eqb-false, eq-eqb, ne-eqb, leb-true, leb-false}
+use lib.Dec.{eqb, leb, ltb}
+use borrow.Author.Tests.{eqb-true, eqb-false, eq-eqb, ne-eqb, leb-true, leb-false, lt-ltb, le-ltb}
 
 pub and-true : (a b : Bool) → (a && b) ≡ true → (a ≡ true) × (b ≡ true)
 and-true true b h = (refl, h)
@@ -13,6 +14,14 @@ and-true false b h = absurd (false≢true h)
 pub and-false : (a b : Bool) → (a && b) ≡ false → (a ≡ false) ⊎ (b ≡ false)
 and-false true b h = inr h
 and-false false b h = inl refl
+
+pub and-unit : (a : Bool) → (a && true) ≡ a
+and-unit true = refl
+and-unit false = refl
+
+pub and-assoc : (a b c : Bool) → (a && (b && c)) ≡ ((a && b) && c)
+and-assoc true b c = refl
+and-assoc false b c = refl
 
 pub or-true : (a b : Bool) → (a || b) ≡ true → (a ≡ true) ⊎ (b ≡ true)
 or-true true b h = inl refl
@@ -43,3 +52,10 @@ eqb-iff {a} {b} {c} {d} f g = go (eqb a b) refl
 
 pub eqb-sym : (s t : ℕ) → eqb s t ≡ eqb t s
 eqb-sym s t = eqb-iff {a = s} {b = t} (λ p. sym p) (λ p. sym p)
+
+pub leb-ltb : (a b : ℕ) → leb a b ≡ ltb a (suc b)
+leb-ltb a b = go (leb a b) refl
+  where
+    go : (t : Bool) → leb a b ≡ t → t ≡ ltb a (suc b)
+    go true e = sym (lt-ltb a (suc b) (omega (arith, leb-true a b e)))
+    go false e = sym (le-ltb a (suc b) (omega (arith, leb-false a b e)))

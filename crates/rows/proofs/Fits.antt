@@ -30,6 +30,12 @@ pub inside-end : (cells d : ℕ) (c : Care) (m : List Care) → cells ≤ d → 
 unfolding inside
 inside-end cells d c m l = let b : cells ≤ cellOf c d = omega arith in rw (le-ltb (cellOf c d) cells b)
 
+-- an occupied row that is inside has a displacement below the number of cells
+inside-low : (cells d : ℕ) (m : List Care) → 0 < length m → inside cells d m ≡ true → d < cells
+unfolding inside
+inside-low cells d [] l h = absurd (omega arith)
+inside-low cells d (c ∷ m) l h = omega (arith, ltb-true (cellOf c d) cells (and-true (ltb (cellOf c d) cells) (inside cells d m) h .0))
+
 -- what fits is inside, and its cells are free
 pub fits-in : (g : List ℕ) (d : ℕ) (m : List Care) → fitsAt g d m ≡ true → (inside (length g) d m ≡ true) × (clear g d m ≡ true)
 unfolding fitsAt
@@ -155,6 +161,14 @@ fit-at g [] d h =
     let q : 0 ≡ d = cc (first-empty g) in
     rw (← q) (record { fits = refl; before = λ e l. absurd (omega arith) })
 fit-at g (c ∷ cs) d h = rw h at (answer-first g c cs)
+
+-- at the displacement found the row is inside
+pub fit-inside : (g : List ℕ) (m : List Care) (d : ℕ) → firstFit g m ≡ at d → inside (length g) d m ≡ true
+fit-inside g m d h = fits-in g d m (fit-at g m d h .fits) .0
+
+-- the displacement found of an occupied row is below the number of cells
+pub fit-low : (g : List ℕ) (m : List Care) (d : ℕ) → 0 < length m → firstFit g m ≡ at d → d < length g
+fit-low g m d l h = inside-low (length g) d m l (fit-inside g m d h)
 
 -- where none is found none fits, and those tried are the ones that keep every column inside
 pub fit-none : (g : List ℕ) (m : List Care) (t : ℕ) → firstFit g m ≡ none t → NoneFits g m t

@@ -3,22 +3,19 @@ use Prim.Native.Nat.{ℕ, _+_, _<_}
 use native.Mathlib.Omega.{arith}
 use mathlib.Core.Path.{_≡_, refl, sym, ap, _∙_}
 use mathlib.Core.Bool.{Bool, true, false, true≢false, false≢true}
-use mathlib.Core.List.{List, [], _∷_}
+use mathlib.Core.List.{List}
 use mathlib.Core.Logic.{_⊎_, inl, inr, ⊎-elim}
-use lib.Dec.{ltb}
 use lib.ListN.{length, getD, set}
 use lib.Seq.{getD-set-same, getD-set-other}
-use borrow.Author.Tests.{ltb-true}
 use Rattle.lists.specs.First.{has}
-use Rattle.lists.proofs.Tests.{and-true}
 use Rattle.lists.proofs.Members.{In, in-pos}
 use Rattle.lists.proofs.Has.{has-self, has-other, has-cons}
 use Rattle.rows.specs.Care.{Care, inRow, weightOf, openWeight}
-use Rattle.rows.specs.Fit.{cellOf, inside, at, firstFit, put}
+use Rattle.rows.specs.Fit.{at, firstFit, put}
 use Rattle.rows.specs.Place.{Placed, all, placeRow}
 use Rattle.rows.specs.Demand.{filled}
 use Rattle.rows.proofs.Filled.{filled-none}
-use Rattle.rows.proofs.Fits.{fits-in, fit-at}
+use Rattle.rows.proofs.Fits.{fit-at, fit-low}
 use Rattle.rows.proofs.Open.{open-not, open-weight}
 use Rattle.rows.proofs.Turns.{Next, at-end}
 use Rattle.rows.proofs.Order.{ordered}
@@ -38,12 +35,6 @@ record Lying (cs : List Care) (g₀ : List ℕ) (s : Placed) : Type 0 where
   back : (i : ℕ) → i < length (s .g) → (getD (s .g) i 0 ≡ getD g₀ i 0) ⊎ Lies cs s i
   kept : (i : ℕ) → (getD g₀ i 0 ≡ 0 → ⊥) → getD (s .g) i 0 ≡ getD g₀ i 0
   low : (r : ℕ) → has r (s .order) ≡ true → getD (s .h) r 0 < length (s .g)
-
--- an occupied row that is inside has a displacement below the number of cells
-inside-low : (cells d : ℕ) (m : List Care) → 0 < length m → inside cells d m ≡ true → d < cells
-unfolding inside
-inside-low cells d [] l h = absurd (omega arith)
-inside-low cells d (c ∷ m) l h = omega (arith, ltb-true (cellOf c d) cells (and-true (ltb (cellOf c d) cells) (inside cells d m) h .0))
 
 open-row : (cs : List Care) (order : List ℕ) (r : ℕ) → 0 < openWeight cs order r → openWeight cs order r ≡ length (inRow r cs)
 unfolding weightOf
@@ -99,7 +90,7 @@ module _ (cs : List Care) (s : Placed) (r d : ℕ) (n : Next cs s r) (f : firstF
       size = put-length (s .g) d (inRow r cs)
 
       below : d < length (s .g)
-      below = inside-low (length (s .g)) d (inRow r cs) (omega (arith, n .weighs, open-row cs (s .order) r (n .weighs))) (fits-in (s .g) d (inRow r cs) (fit-at (s .g) (inRow r cs) d f .fits) .0)
+      below = fit-low (s .g) (inRow r cs) d (omega (arith, n .weighs, open-row cs (s .order) r (n .weighs))) f
 
 -- a vector whose row is placed lies in its cell
 abbrev Holding : List Care → Placed → Type 0

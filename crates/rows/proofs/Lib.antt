@@ -6,6 +6,7 @@ pub mod Open
 pub mod Turns
 pub mod Order
 pub mod Spreads
+pub mod Sweeps
 pub mod Counts
 pub mod Smallest
 pub mod Cells

@@ -26,7 +26,7 @@ row-length r (c ∷ cs) = go (eqb (c .row) r) (row-length r cs)
     go false l = omega arith
 
 -- no row holds more than all the vectors
-weight-le : (cs : List Care) (r : ℕ) → weightOf cs r ≤ length cs
+pub weight-le : (cs : List Care) (r : ℕ) → weightOf cs r ≤ length cs
 unfolding weightOf
 weight-le cs r = row-length r cs
 

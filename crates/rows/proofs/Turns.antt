@@ -91,7 +91,8 @@ pub record Ended (cs : List Care) (P : Placing) : Type 0 where
   pub none-left : P .end ≡ all → (i : ℕ) → i < length (P .state .h) → openWeight cs (P .state .order) i ≡ 0
   pub no-fit : (r tried : ℕ) → P .end ≡ noFit r tried → Next cs (P .state) r × (firstFit (P .state .g) (inRow r cs) ≡ none tried)
 
-all-no-fit : {r t : ℕ} → _≡_ {A = End} all (noFit r t) → ⊥
+-- the two ends differ
+pub all-no-fit : {r t : ℕ} → _≡_ {A = End} all (noFit r t) → ⊥
 all-no-fit {r} {t} e = let z : _≡_ {A = ℕ} 0 1 = cc in omega arith
 
 ended-all : (cs : List Care) (s : Placed) → ((i : ℕ) → i < length (s .h) → openWeight cs (s .order) i ≡ 0) → Ended cs (record { end = all; state = s })

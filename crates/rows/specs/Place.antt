@@ -5,7 +5,7 @@ use mathlib.Core.List.{List, [], _∷_}
 use lib.Dec.{eqb}
 use lib.ListN.{length, set}
 use Rattle.rows.specs.Care.{Care, inRow, openWeight, heaviest}
-use Rattle.rows.specs.Fit.{Fit, at, none, firstFit, put}
+use Rattle.rows.specs.Fit.{at, none, firstFit, put}
 
 -- h: the displacements, a word for each row; g: the cells; tries: "the sum of d + 1 over the placed rows"; order: the rows placed, the last first
 pub record Placed : Type 0 where

@@ -4,4 +4,6 @@ pub mod Refusals
 pub mod Build
 pub mod Lookup
 pub mod Recover
+pub mod Demand3
+pub mod Inner
 pub mod Samples

@@ -1,17 +1,15 @@
 -- Looking up.
 use Prim.Native.Nat.{ℕ, zero, suc, _+_, _-_, _^_}
 use mathlib.Core.Bool.{Bool, true, false, not, _&&_}
-use mathlib.Core.List.{List}
 use lib.Count.{ones}
 use lib.Dec.{eqb, leb, ltb}
 use lib.ListN.{length, getD}
 use Rattle.lists.specs.First.{firstOf}
-use Rattle.vectors.specs.declared.Kind.{Kind}
 use Rattle.vectors.specs.Variable.{numberOf, rowOf, columnOf}
 use Rattle.vectors.specs.Word.{wordOf}
 use Rattle.unit.specs.declared.Unit.{Unit as Igu}
 use Rattle.unit.specs.declared.Found.{Found}
-use Rattle.unit.specs.Bounds.{maxInputs, maxVectors, maxCells, maxVariables, maxSide, outside, tooMany}
+use Rattle.unit.specs.Bounds.{maxInputs, maxVectors, maxCells, outside, tooMany}
 use Rattle.unit.specs.Record.{kindsIn}
 use Rattle.unit.specs.Refusals.{firstFaulty}
 use Rattle.unit.specs.Build.{Tables}

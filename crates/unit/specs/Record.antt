@@ -1,13 +1,12 @@
 -- The record of a unit.
-use Prim.Native.Nat.{ℕ, zero, suc, _+_, _-_, _/_, _^_}
-use mathlib.Core.List.{List, [], _∷_, _++_, map}
+use Prim.Native.Nat.{ℕ, suc, _-_, _/_, _^_}
+use mathlib.Core.List.{List, _++_, map}
 use lib.Dec.{leb}
 use lib.IntN.{ℤ, pos, subℕ}
 use lib.ListN.{length, take, drop, replicate}
 use Rattle.lists.specs.First.{firstFrom}
 use Rattle.vectors.specs.declared.Kind.{Kind}
-use Rattle.vectors.specs.declared.Kind.the-variants.{One, Two}
-use Rattle.vectors.specs.declared.Part.{Part}
+use Rattle.vectors.specs.declared.Kind.the-variants.{One}
 use Rattle.vectors.specs.declared.Part.the-variants.{Row, Column}
 use Rattle.vectors.specs.declared.Variable.{Variable}
 use Rattle.vectors.specs.Variable.{kindsOf}

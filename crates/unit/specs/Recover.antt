@@ -1,9 +1,8 @@
 -- Recovering a vector from its number.
 use Prim.Native.Nat.{ℕ, zero, suc, _+_, _-_, _%_, _^_}
-use mathlib.Core.Bool.{Bool, true, false, not, _&&_}
-use mathlib.Core.List.{List}
+use mathlib.Core.Bool.{Bool, true, false, _&&_}
 use lib.Dec.{eqb, leb, ltb}
-use lib.ListN.{length, getD, take}
+use lib.ListN.{getD, take}
 use Rattle.lists.specs.First.{firstOf}
 use Rattle.vectors.specs.Span.{soundOf}
 use Rattle.vectors.specs.Word.{vectorOf}

@@ -2,7 +2,7 @@
 use Prim.Native.Nat.{ℕ, zero, suc, _^_}
 use mathlib.Core.Bool.{Bool, cond, not, _||_}
 use mathlib.Core.List.{List, [], _∷_, map}
-use lib.Dec.{eqb, leb, ltb}
+use lib.Dec.{leb, ltb}
 use lib.ListN.{length}
 use Rattle.lists.specs.First.{firstOf, repeated}
 use Rattle.vectors.specs.declared.Kind.{Kind}
@@ -60,12 +60,15 @@ abbrev pub check4 : ℕ → Refusal
 check4 cells = refuseIf 4 (outside 1 maxCells cells)
 
 -- "G shorter than L, or AUX shorter than k + 1"
-abbrev pub check5 : ℕ → ℕ → List ℕ → List ℕ → Refusal
-check5 k cells g aux = refuseIf 5 (ltb (length g) cells || ltb (length aux) (suc k))
+abbrev pub check5 : ℕ → ℕ → ℕ → ℕ → Refusal
+check5 k cells g aux = refuseIf 5 (ltb g cells || ltb aux (suc k))
 
 -- "a vector has a bit beyond n": "first such index"
+abbrev pub firstBeyond : ℕ → List ℕ → ℕ
+firstBeyond n vs = firstOf (λ before v. leb (2 ^ n) v) vs
+
 abbrev pub check6 : ℕ → List ℕ → Refusal
-check6 n vs = refuseAt 6 (firstOf (λ before v. leb (2 ^ n) v) vs)
+check6 n vs = refuseAt 6 (firstBeyond n vs)
 
 -- "a vector equals an earlier one": "first such index"
 abbrev pub check7 : List ℕ → Refusal
@@ -93,3 +96,19 @@ check11 ks vs = refuseIf 11 (not (apart vs ks))
 -- "H shorter than 2^n1"
 abbrev pub check12 : ℕ → List ℕ → Refusal
 check12 n1 h = refuseIf 12 (ltb (length h) (2 ^ n1))
+
+-- checks 1 to 7, which both builds share but for the second; g and aux are the lengths of G and AUX
+abbrev pub listChecks : ℕ → Refusal → ℕ → List ℕ → ℕ → ℕ → List Refusal
+listChecks n second cells vs g aux =
+    check1 n
+    ∷ second
+    ∷ check3 (length vs)
+    ∷ check4 cells
+    ∷ check5 (length vs) cells g aux
+    ∷ check6 n vs
+    ∷ check7 vs
+    ∷ []
+
+-- checks 8 to 10, of given variables
+abbrev pub givenChecks : ℕ → List Kind → List ℕ → List Refusal
+givenChecks n ks vs = check8 n ks ∷ check9 ks ∷ check10 ks vs ∷ []

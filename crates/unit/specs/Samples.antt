@@ -7,12 +7,10 @@ use lib.IntN.{pos, negsuc}
 use lib.ListN.{take, replicate}
 use Rattle.vectors.specs.declared.Kind.{Kind}
 use Rattle.vectors.specs.declared.Kind.the-variants.{One, Two}
-use Rattle.vectors.specs.declared.Part.{Part}
 use Rattle.vectors.specs.declared.Part.the-variants.{Row, Column}
 use Rattle.vectors.specs.declared.Variable.{Variable}
 use Rattle.vectors.specs.Choice.{choose, left}
 use Rattle.rows.specs.Demand.{spread}
-use Rattle.unit.specs.declared.Unit.{Unit as Igu}
 use Rattle.unit.specs.Bounds.{maxVariables}
 use Rattle.unit.specs.Record.{blankVariable, blankUnit}
 use Rattle.unit.specs.Build.{Tables, Outcome, buildChosen, buildGiven, caresFrom}
@@ -24,8 +22,8 @@ abbrev pub S : List ℕ
 S = 16 ∷ 18 ∷ 20 ∷ 28 ∷ 32 ∷ 55 ∷ 58 ∷ []
 
 -- tables as lent: every word is 9
-abbrev pub lent : ℕ → ℕ → ℕ → Tables
-lent a b c = record { h = replicate a 9; g = replicate b 9; aux = replicate c 9 }
+abbrev pub nines : ℕ → ℕ → ℕ → Tables
+nines a b c = record { h = replicate a 9; g = replicate b 9; aux = replicate c 9 }
 
 abbrev row : Kind → Variable
 row k = record { kind = k; part = Row }
@@ -44,10 +42,10 @@ lefts vs taken (k ∷ ks) = left vs (taken ++ (k ∷ [])) ∷ lefts vs (taken ++
 
 -- the unit of the page, lent a word more in each table; and refusals that leave tables
 abbrev printed : ℕ → Outcome
-printed cells = buildChosen 6 2 cells S (lent 5 8 9)
+printed cells = buildChosen 6 2 cells S (nines 5 8 9)
 
 abbrev table41 : ℕ → Outcome
-table41 cells = buildGiven 6 (given (One 4 ∷ One 5 ∷ One 6 ∷ One 1 ∷ One 2 ∷ One 3 ∷ [])) 6 3 cells S (lent 9 9 9)
+table41 cells = buildGiven 6 (given (One 4 ∷ One 5 ∷ One 6 ∷ One 1 ∷ One 2 ∷ One 3 ∷ [])) 6 3 cells S (nines 9 9 9)
 
 abbrev refusal : ℕ → ℕ → Tables → Outcome
 refusal number place t = record { built = record { refusal = number; place = place; unit = blankUnit }; tables = t }
@@ -109,10 +107,10 @@ pub record Table : Type 0 where
     };
   }
   -- "The same with L = 7: refusal 13, place 6; with L = 5: refusal 13, place 3."
-  pub given-7 : table41 7 .built ≡ refusal 13 6 (lent 0 0 0) .built
-  pub given-5 : table41 5 .built ≡ refusal 13 3 (lent 0 0 0) .built
+  pub given-7 : table41 7 .built ≡ refusal 13 6 (nines 0 0 0) .built
+  pub given-5 : table41 5 .built ≡ refusal 13 3 (nines 0 0 0) .built
   -- "0, 1, 2, 3 with n = 3, rows x_1, x_2, column x_3, L = 6: H 0 1 2 3, G 1 2 3 4 0 0, tries 10. Demand 3's spread condition holds."
-  pub spread-out : buildGiven 3 (given (One 1 ∷ One 2 ∷ One 3 ∷ [])) 3 2 6 (0 ∷ 1 ∷ 2 ∷ 3 ∷ []) (lent 4 6 5) ≡ record {
+  pub spread-out : buildGiven 3 (given (One 1 ∷ One 2 ∷ One 3 ∷ [])) 3 2 6 (0 ∷ 1 ∷ 2 ∷ 3 ∷ []) (nines 4 6 5) ≡ record {
     built = record {
       refusal = 0;
       place = 0;
@@ -132,7 +130,7 @@ pub record Table : Type 0 where
   }
   pub spread-holds : spread 4 (caresFrom 1 2 (One 1 ∷ One 2 ∷ One 3 ∷ []) (0 ∷ 1 ∷ 2 ∷ 3 ∷ [])) ≡ true
   -- "16 alone, n = 6, degree 1, L = 1: p = 0, H 0, G 1, AUX 0 16, tries 1, excess -1."
-  pub alone : buildChosen 6 1 1 (16 ∷ []) (lent 1 1 2) ≡ record {
+  pub alone : buildChosen 6 1 1 (16 ∷ []) (nines 1 1 2) ≡ record {
     built = record {
       refusal = 0;
       place = 0;
@@ -151,10 +149,10 @@ pub record Table : Type 0 where
     tables = record { h = 0 ∷ []; g = 1 ∷ []; aux = 0 ∷ 16 ∷ [] };
   }
   -- "5, 5: refusal 7, place 2. 64 with n = 6: refusal 6, place 1."
-  pub equal : buildChosen 6 1 1 (5 ∷ 5 ∷ []) (lent 1 1 3) ≡ refusal 7 2 (lent 1 1 3)
-  pub beyond : buildChosen 6 1 1 (64 ∷ []) (lent 1 1 2) ≡ refusal 6 1 (lent 1 1 2)
+  pub equal : buildChosen 6 1 1 (5 ∷ 5 ∷ []) (nines 1 1 3) ≡ refusal 7 2 (nines 1 1 3)
+  pub beyond : buildChosen 6 1 1 (64 ∷ []) (nines 1 1 2) ≡ refusal 6 1 (nines 1 1 2)
   -- "No vectors: refusal 3."
-  pub empty : buildChosen 6 1 1 [] (lent 1 1 1) ≡ refusal 3 0 (lent 1 1 1)
+  pub empty : buildChosen 6 1 1 [] (nines 1 1 1) ≡ refusal 3 0 (nines 1 1 1)
 
 pub samples : Table
 unfolding choose left buildChosen buildGiven lookupOf recoverOf spread caresFrom

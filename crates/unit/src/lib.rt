@@ -1,5 +1,17 @@
-// The index generation unit: its record and its answers.
+// The index generation unit: its record, its answers and its entries.
+ghost use mathlib.Core.Path.{_≡_};
+ghost use Rattle.unit.specs.Build.{lent, after, buildChosen, buildGiven};
 use vectors::Variable;
+
+mod build;
+mod checks;
+mod choice;
+mod fix;
+mod groups;
+mod shift;
+mod span;
+mod variables;
+mod word;
 
 // What a build leaves beside the tables. The part marks in it are set from n1, and nothing reads them.
 pub struct Unit {
@@ -31,4 +43,58 @@ pub struct Recovered {
     pub refusal: u8,
     pub place: usize,
     pub vector: u64,
+}
+
+// The build that chooses its variables.
+pub fn build_chosen(
+    n: usize,
+    degree: usize,
+    cells: usize,
+    vectors: &[u64],
+    h: &mut [u16],
+    g: &mut [u16],
+    aux: &mut [u64],
+) -> Built
+    ensures { λ r. ⌜ after r (now (h .exit)) (now (g .exit)) (now (aux .exit))
+        ≡ buildChosen n degree cells (now (vectors .entry)) (lent (now (h .entry)) (now (g .entry)) (now (aux .entry))) ⌝ }
+{
+    let two = checks::outside(1, 2, degree);
+    let list = checks::check_list(n, two, cells, vectors, g.len(), aux.len());
+    if list.number != 0 {
+        return build::refused(list.number, list.place);
+    }
+    let chosen = choice::choose(vectors, n as u8, degree);
+    if !chosen.apart {
+        return build::refused(11, 0);
+    }
+    let p = chosen.p;
+    let variables = chosen.variables;
+    build::complete(n, variables, p, p - p / 2, cells, vectors, h, g, aux)
+}
+
+// The build whose variables and n1 the caller states.
+pub fn build_given(
+    n: usize,
+    variables: [Variable; 24],
+    p: usize,
+    n1: usize,
+    cells: usize,
+    vectors: &[u64],
+    h: &mut [u16],
+    g: &mut [u16],
+    aux: &mut [u64],
+) -> Built
+    ensures { λ r. ⌜ after r (now (h .exit)) (now (g .exit)) (now (aux .exit))
+        ≡ buildGiven n variables p n1 cells (now (vectors .entry)) (lent (now (h .entry)) (now (g .entry)) (now (aux .entry))) ⌝ }
+{
+    let two = checks::too_many(p, n1);
+    let list = checks::check_list(n, two, cells, vectors, g.len(), aux.len());
+    if list.number != 0 {
+        return build::refused(list.number, list.place);
+    }
+    let given = checks::check_given(n, variables, p, vectors);
+    if given.number != 0 {
+        return build::refused(given.number, given.place);
+    }
+    build::complete(n, variables, p, n1, cells, vectors, h, g, aux)
 }

@@ -1,6 +1,6 @@
 -- Bits of a number, their counts, and what a mask picks; places. Each law is over any number of bits. Assumes nothing.
 use Prim.Native.Nat.{ℕ, zero, suc, _+_, _-_, _*_, _/_, _%_, _^_, _≤_, _<_, min}
-use native.Mathlib.Nat.{mod-lt, zero-lt-suc, add-zero, one-mul, mul-mod-left, mod-eq-of-lt, lt-of-le-of-lt, add-comm, mul-comm, mul-one}
+use native.Mathlib.Nat.{mod-lt, zero-lt-suc, add-zero, one-mul, mul-mod-left, mod-eq-of-lt, lt-of-le-of-lt, add-comm, mul-comm, mul-one, mul-assoc, pow-suc}
 use native.Mathlib.Numerals.{add-one, one-add}
 use native.Mathlib.Omega.{arith}
 use mathlib.Core.Path.{_≡_, refl, sym, ap, ap₂, _∙_, subst}
@@ -18,6 +18,14 @@ digit P p0 p1 n = go (n % 2) (mod-lt n (zero-lt-suc 1))
     go zero h = p0
     go (suc zero) h = p1
     go (suc (suc r)) h = absurd (omega arith)
+
+-- ---- one bit further on
+
+pub pow-next : (j : ℕ) → 2 ^ (j + 1) ≡ 2 ^ j * 2
+pow-next j = ap (λ (t : ℕ). 2 ^ t) (add-one j) ∙ pow-suc 2 j
+
+pub shift-next : (j x : ℕ) → 2 ^ j * (2 * x) ≡ 2 ^ (j + 1) * x
+shift-next j x = sym (mul-assoc (2 ^ j) 2 x) ∙ ap (λ (t : ℕ). t * x) (sym (pow-next j))
 
 -- ---- two numbers of n bits with the same bits are equal
 

@@ -1,20 +1,18 @@
 -- A variable that lowers the number of pairs is no XOR of those taken: dependence never arises in the chosen build. Assumes nothing.
-use Prim.Native.Nat.{ℕ, suc, _+_, _*_, _^_, _≤_, _<_}
+use Prim.Native.Nat.{ℕ, suc, _<_}
 use native.Mathlib.Omega.{arith}
-use mathlib.Core.Path.{_≡_, refl, sym, ap, ap₂, _∙_}
-use mathlib.Core.Bool.{Bool, true, false, cond}
+use mathlib.Core.Path.{_≡_, refl, sym, _∙_}
+use mathlib.Core.Bool.{Bool, true, false}
 use mathlib.Core.List.{List, [], _∷_, _++_, map, append-nil}
-use borrow.Author.Tests.{eqb-true, eq-eqb}
-use lib.Dec.{eqb}
-use lib.ListN.{length}
 use Rattle.lists.specs.First.{firstIn, firstOf}
 use Rattle.lists.proofs.Firsts.{first-on}
 use Rattle.lists.proofs.NonePass.{none-head}
 use Rattle.vectors.specs.declared.Kind.{Kind}
 use Rattle.vectors.specs.Variable.{maskOf, valueOf, numberOf}
 use Rattle.vectors.specs.Span.{spans, firstDependent}
-use Rattle.vectors.specs.Choice.{count, pairs, left}
-use Rattle.vectors.proofs.Numbers.{number-append}
+use Rattle.vectors.specs.Choice.{left}
+use Rattle.vectors.proofs.Choice.Pairs.{pairs-finer}
+use Rattle.vectors.proofs.Choice.Numbers.{snoc-join}
 use Rattle.vectors.proofs.Xor.{parity-value}
 use Rattle.vectors.proofs.Spans.{spans-middle}
 use Rattle.vectors.proofs.Unique.{number-alike, alike-span}
@@ -24,34 +22,10 @@ value-alike : (x y : ℕ) (ks : List Kind) (k : Kind) → spans (map maskOf ks) 
 value-alike x y ks k s h =
     sym (parity-value x k) ∙ alike-span x y (map maskOf ks) (maskOf k) (number-alike ks x y h) s ∙ parity-value y k
 
-number-snoc : (ks : List Kind) (k : Kind) (x : ℕ) → numberOf (ks ++ (k ∷ [])) x ≡ numberOf ks x + 2 ^ length ks * valueOf x k
-unfolding numberOf
-number-snoc ks k x = number-append ks (k ∷ []) x ∙ ap (λ (t : ℕ). numberOf ks x + 2 ^ length ks * t) (omega arith)
-
 -- so vectors that agree on the variables agree on the longer list
 number-alike-snoc : (ks : List Kind) (k : Kind) → spans (map maskOf ks) (maskOf k) ≡ true → (x y : ℕ) → numberOf ks x ≡ numberOf ks y
     → numberOf (ks ++ (k ∷ [])) x ≡ numberOf (ks ++ (k ∷ [])) y
-number-alike-snoc ks k s x y p =
-    number-snoc ks k x ∙ ap₂ (λ (t u : ℕ). t + 2 ^ length ks * u) p (value-alike x y ks k s p) ∙ sym (number-snoc ks k y)
-
--- what is equal under g is equal under f: g leaves no more pairs
-module _ (f g : ℕ → ℕ) (finer : (x y : ℕ) → g x ≡ g y → f x ≡ f y) where
-  one-finer : (x y : ℕ) → cond {A = ℕ} (eqb (g x) (g y)) 1 0 ≤ cond (eqb (f x) (f y)) 1 0
-  one-finer x y = go (eqb (g x) (g y)) refl
-    where
-      go : (b : Bool) → eqb (g x) (g y) ≡ b → cond {A = ℕ} b 1 0 ≤ cond (eqb (f x) (f y)) 1 0
-      go true e = rw (eq-eqb (f x) (f y) (finer x y (eqb-true (g x) (g y) e))) (omega arith)
-      go false e = omega arith
-
-  count-finer : (x : ℕ) (vs : List ℕ) → count (g x) (map g vs) ≤ count (f x) (map f vs)
-  unfolding count
-  count-finer x [] = omega arith
-  count-finer x (v ∷ vs) = omega (arith, one-finer x v, count-finer x vs)
-
-  pairs-finer : (vs : List ℕ) → pairs (map g vs) ≤ pairs (map f vs)
-  unfolding pairs
-  pairs-finer [] = omega arith
-  pairs-finer (v ∷ vs) = omega (arith, count-finer v vs, pairs-finer vs)
+number-alike-snoc ks k s x y p = snoc-join ks k x y p (value-alike x y ks k s p)
 
 -- ---- one more variable
 

@@ -1,5 +1,6 @@
 pub mod Tied
 pub mod Edges
+pub mod Nodes
 pub mod Count
 pub mod Keep
 pub mod Depend

@@ -5,8 +5,8 @@ pub mod Runs
 pub mod WordLaws
 pub mod Xor
 pub mod Spans
+pub mod Choice
 pub mod Labels
 pub mod Unique
 pub mod Independent
 pub mod Vector
-pub mod Choice

@@ -15,7 +15,7 @@ use Rattle.vectors.specs.Variable.{maskOf, numberOf, columnOf}
 use Rattle.vectors.specs.Span.{spans, keptIn, kept}
 use Rattle.vectors.specs.Word.{packIn, wordOf}
 use Rattle.vectors.proofs.BitsLaws.{ext}
-use Rattle.vectors.proofs.Numbers.{number-head, number-split}
+use Rattle.vectors.proofs.Numbers.{number-head, number-split, parts}
 use Rattle.vectors.proofs.Packing.{pack-even, pack-odd}
 use Rattle.vectors.proofs.WordLaws.{word-parts}
 use Rattle.vectors.proofs.Xor.{parity, parity-linear, parity-bit, parity-value}
@@ -57,9 +57,6 @@ even-at d k x j = pack-even d k (x / 2 ^ j) ∙ ap (packIn d k) (half-shr x j)
 odd-at : (d k x j : ℕ) → packIn (suc d) (1 + 2 * k) (x / 2 ^ j) ≡ bit x j + 2 * packIn d k (x / 2 ^ suc j)
 odd-at d k x j = pack-odd d k (x / 2 ^ j) ∙ ap (λ (t : ℕ). bit x j + 2 * packIn d k t) (half-shr x j)
 
-both : (a b p q : ℕ) → a < 2 → b < 2 → a + 2 * p ≡ b + 2 * q → (a ≡ b) × (p ≡ q)
-both a b p q ha hb e = omega arith
-
 unique-in : (d j : ℕ) (ms : List ℕ) (x y : ℕ) → Alike x y ms → packIn d (keptIn d j ms) (x / 2 ^ j) ≡ packIn d (keptIn d j ms) (y / 2 ^ j) → Above x y d j
 unfolding Above
 unique-in zero j ms x y a e = λ i h. absurd (omega arith)
@@ -75,7 +72,7 @@ unique-in (suc d) j ms x y a e = go (spans ms (2 ^ j)) refl (λ ms′ a′ e′.
     go false s ih =
         let q = rw (kept-no d j ms s) at e in
         let k : ℕ = keptIn d (suc j) (2 ^ j ∷ ms) in
-        let h = both (bit x j) (bit y j) (packIn d k (x / 2 ^ suc j)) (packIn d k (y / 2 ^ suc j))
+        let h = parts 2 (bit x j) (packIn d k (x / 2 ^ suc j)) (bit y j) (packIn d k (y / 2 ^ suc j))
         (mod-lt (x / 2 ^ j) (zero-lt-suc 1)) (mod-lt (y / 2 ^ j) (zero-lt-suc 1)) (sym (odd-at d k x j) ∙ q ∙ odd-at d k y j) in
         above-suc x y d j (h .0) (ih (2 ^ j ∷ ms) (parity-bit x j ∙ h .0 ∙ sym (parity-bit y j), a) (h .1))
 

@@ -17,13 +17,14 @@ use Rattle.lists.proofs.Members.{All}
 use Rattle.lists.proofs.Firsts.{FoundFrom, found-from}
 use Rattle.vectors.specs.declared.Kind.{Kind}
 use Rattle.vectors.specs.Variable.{faulty, rowOf, columnOf}
-use Rattle.vectors.specs.Span.{kept, firstDependent}
+use Rattle.vectors.specs.Span.{kept, firstDependent, soundOf}
 use Rattle.vectors.specs.Word.{wordOf, vectorOf}
 use Rattle.vectors.proofs.Numbers.{number-split, parts, row-lt}
 use Rattle.vectors.proofs.WordLaws.{sum-lt}
 use Rattle.vectors.proofs.Unique.{one-vector}
 use Rattle.vectors.proofs.Labels.Count.{kept-number}
-use Rattle.vectors.proofs.Labels.Recovery.{readWith, Recovered, recovered}
+use Rattle.vectors.proofs.Labels.Cells.{startCells, cellsOn, groundedOn}
+use Rattle.vectors.proofs.Labels.Recovery.{readOff, readWith, Recovered, recovered}
 
 -- x is a vector of n bits with this word and this column
 pub record Fixed (n n1 : ℕ) (ks : List Kind) (word column x : ℕ) : Type 0 where
@@ -95,3 +96,16 @@ module _ (n n1 : ℕ) (ks : List Kind) (word column : ℕ) (f : All (λ k. fault
   -- the vector found has the word and the column
   pub vector-is : Fixed n n1 ks word column (vectorOf n n1 ks (kept n ks) word column)
   vector-is = rw (vector-one n n1 ks word column _ h (read-fixed (n + 1) (omega arith))) (read-fixed (n + 1) (omega arith))
+
+-- what sound variables and kept inputs are
+pub sound-facts : (n : ℕ) (ks : List Kind) (mask : ℕ) → soundOf n ks mask ≡ true → (firstDependent ks ≡ 0) × (mask ≡ kept n ks)
+unfolding soundOf
+sound-facts n ks mask s = let t = and-true (eqb (firstDependent ks) 0) (eqb mask (kept n ks)) s in (eqb-true _ _ (t .0), eqb-true _ _ (t .1))
+
+-- the same of a mask that is sound
+pub sound-read : (n n1 : ℕ) (ks : List Kind) (mask word column d : ℕ) → All (λ k. faulty n k ≡ false) ks → soundOf n ks mask ≡ true → n1 ≤ length ks
+    → word < 2 ^ (n1 + n - length ks) → column < 2 ^ (length ks - n1) → n < d
+    → readOff n 0 (groundedOn n 0 mask (word / 2 ^ n1) (cellsOn ks (word % 2 ^ n1 + 2 ^ n1 * column) (startCells d))) ≡ vectorOf n n1 ks mask word column
+sound-read n n1 ks mask word column d f s h hw hc l =
+    let t = sound-facts n ks mask s in
+    rw (t .1) (vector-read n n1 ks word column f (t .0) h hw hc d l)

@@ -1,13 +1,11 @@
 -- Each step lowers the number of pairs: two vectors that agree on the taken variables differ at an input. Assumes nothing.
 use Prim.Native.Nat.{ℕ, zero, suc, _/_, _%_, _^_, _≤_, _<_}
 use native.Mathlib.Omega.{arith}
-use native.Mathlib.Numerals.{one-add}
 use native.Mathlib.Nat.{pow-succ'}
-use mathlib.Core.Path.{_≡_, refl, ap, sym, _∙_}
+use mathlib.Core.Path.{_≡_, refl, sym, _∙_}
 use mathlib.Core.Bool.{Bool, true, false}
 use mathlib.Core.List.{List, [], _∷_, _++_}
 use lib.Dec.{eqb}
-use lib.Pow.{shr-shr}
 use borrow.Author.Tests.{eqb-true, eqb-false}
 use Rattle.lists.proofs.Members.{In, All, all-in}
 use Rattle.lists.proofs.Joined.{in-at}
@@ -17,7 +15,8 @@ use Rattle.vectors.specs.Bits.{input}
 use Rattle.vectors.specs.Variable.{valueOf, numberOf}
 use Rattle.vectors.specs.Choice.{pairs, left, leaves, candidates, nextOf}
 use Rattle.vectors.specs.Least.{Least}
-use Rattle.vectors.proofs.Choice.Numbers.{number-split}
+use Rattle.vectors.proofs.BitsLaws.{bit-suc}
+use Rattle.vectors.proofs.Choice.Numbers.{snoc-split}
 use Rattle.vectors.proofs.Choice.Pairs.{In2, pairs-fewer, pairs-found}
 use Rattle.vectors.proofs.Choice.Candidates.{candidate-one, candidates-some}
 use Rattle.vectors.proofs.Choice.Least.{next-least}
@@ -30,9 +29,6 @@ pub record Differ (n u v : ℕ) : Type 0 where
   pub to : i ≤ n
   pub differ : input u i ≡ input v i → ⊥
 
-half-input : (u j : ℕ) → input u (suc (suc j)) ≡ input (u / 2) (suc j)
-half-input u j = ap (λ (w : ℕ). w % 2) (ap (λ (k : ℕ). u / 2 ^ k) (sym (one-add j)) ∙ sym (shr-shr u 1 j))
-
 pub differs : (n u v : ℕ) → u < 2 ^ n → v < 2 ^ n → (u ≡ v → ⊥) → Differ n u v
 differs zero u v a b h = absurd (h (omega arith))
 differs (suc n) u v a b h = go (eqb (u % 2) (v % 2)) refl (λ p q r. differs n (u / 2) (v / 2) p q r)
@@ -42,21 +38,13 @@ differs (suc n) u v a b h = go (eqb (u % 2) (v % 2)) refl (λ p q r. differs n (
       where
         fix : (i : ℕ) → 1 ≤ i → i ≤ n → (input (u / 2) i ≡ input (v / 2) i → ⊥) → Differ (suc n) u v
         fix zero f t g = absurd (omega arith)
-        fix (suc j) f t g = record { i = suc (suc j); from = omega arith; to = omega arith; differ = λ e. g (sym (half-input u j) ∙ e ∙ half-input v j) }
+        fix (suc j) f t g = record { i = suc (suc j); from = omega arith; to = omega arith; differ = λ e. g (sym (bit-suc u j) ∙ e ∙ bit-suc v j) }
 
     go : (t : Bool) → eqb (u % 2) (v % 2) ≡ t → (u / 2 < 2 ^ n → v / 2 < 2 ^ n → (u / 2 ≡ v / 2 → ⊥) → Differ n (u / 2) (v / 2)) → Differ (suc n) u v
     go true p r =
         let e : u % 2 ≡ v % 2 = eqb-true (u % 2) (v % 2) p in
         down (r (omega (arith, pow-succ' 2 n)) (omega (arith, pow-succ' 2 n)) (λ q. h (omega arith)))
     go false p r = record { i = 1; from = omega arith; to = omega arith; differ = λ e. eqb-false (u % 2) (v % 2) p (omega arith) }
-
--- words of n bits are equal where all their inputs are
-pub inputs-same : (n u v : ℕ) → u < 2 ^ n → v < 2 ^ n → ((i : ℕ) → 1 ≤ i → i ≤ n → input u i ≡ input v i) → u ≡ v
-inputs-same n u v a b h = go (eqb u v) refl
-  where
-    go : (t : Bool) → eqb u v ≡ t → u ≡ v
-    go true e = eqb-true u v e
-    go false e = let d = differs n u v a b (eqb-false u v e) in absurd (d .differ (h (d .i) (d .from) (d .to)))
 
 -- ---- the theorem
 
@@ -76,4 +64,4 @@ fewer n degree vs taken some low differ h =
   where
     less : (u v i : ℕ) → In2 u v vs → numberOf taken u ≡ numberOf taken v → (input u i ≡ input v i → ⊥) → leaves vs taken (One i) < left vs taken
     less u v i m e g =
-        pairs-fewer (numberOf taken) (numberOf (taken ++ (One i ∷ []))) (λ a b p. number-split taken (One i) a b p .0) u v e (λ p. g (unfold valueOf in (number-split taken (One i) u v p .1))) vs m
+        pairs-fewer (numberOf taken) (numberOf (taken ++ (One i ∷ []))) (λ a b p. snoc-split taken (One i) a b p .0) u v e (λ p. g (unfold valueOf in (snoc-split taken (One i) u v p .1))) vs m

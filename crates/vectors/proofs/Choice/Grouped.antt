@@ -1,6 +1,7 @@
 -- The groups hold all pairs of vectors that agree on the variables taken. Assumes nothing.
 use Prim.Native.Nat.{ℕ, zero, suc, _+_, _≤_, _<_}
 use native.Mathlib.Omega.{arith}
+use native.Mathlib.Nat.{add-zero}
 use mathlib.Core.Path.{_≡_, refl, ap, sym, _∙_}
 use mathlib.Core.List.{List, [], _∷_, _++_, map, append-nil}
 use lib.ListN.{length, getD}
@@ -9,7 +10,7 @@ use Rattle.lists.proofs.Members.{All}
 use Rattle.vectors.specs.declared.Kind.{Kind}
 use Rattle.vectors.specs.Variable.{valueOf, numberOf}
 use Rattle.vectors.specs.Choice.{count, pairs, left}
-use Rattle.vectors.proofs.Choice.Numbers.{value-lt}
+use Rattle.vectors.proofs.Numbers.{value-lt}
 use Rattle.vectors.proofs.Choice.Groups.{refined, numbers, whole, pairsIn, members, part-all, pushed-all, refined-all, pushed-members, refined-members, pushed-pairs, refine-pairs}
 
 -- ---- the numbers 0 to k - 1
@@ -18,6 +19,11 @@ pub numbers-length : (d i : ℕ) → length (numbers d i) ≡ d
 unfolding numbers
 numbers-length zero i = refl
 numbers-length (suc d) i = ap suc (numbers-length d (suc i))
+
+pub numbers-more : (d i : ℕ) → numbers (suc d) i ≡ numbers d i ++ ((i + d) ∷ [])
+unfolding numbers
+numbers-more zero i = ap (λ j. j ∷ []) (sym (add-zero i))
+numbers-more (suc d) i = let e : suc i + d ≡ i + suc d = omega arith in ap (λ l. i ∷ l) (numbers-more d (suc i) ∙ rw e)
 
 pub numbers-all : (P : ℕ → Type 0) (d i : ℕ) → ((j : ℕ) → i ≤ j → j < i + d → P j) → All P (numbers d i)
 unfolding numbers

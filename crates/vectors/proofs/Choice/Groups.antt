@@ -3,7 +3,7 @@ use Prim.Native.Nat.{ℕ, zero, suc, _+_, _*_, _≤_, _<_}
 use native.Mathlib.Omega.{arith}
 use mathlib.Core.Path.{_≡_, refl}
 use mathlib.Core.Bool.{Bool, true, false, cond}
-use mathlib.Core.List.{List, [], _∷_, map}
+use mathlib.Core.List.{List, [], _∷_, _++_, map}
 use lib.Dec.{eqb}
 use lib.ListN.{length}
 use borrow.Author.Tests.{eqb-true, eqb-false, eq-eqb, ne-eqb}
@@ -75,7 +75,7 @@ part-all P b v (i ∷ g) a = go (eqb (b i) v) (part-all P b v g (a .1))
     go true r = (a .0, r)
     go false r = r
 
-parts-length : (b : ℕ → ℕ) (g : List ℕ) → length (part b 0 g) + length (part b 1 g) ≤ length g
+pub parts-length : (b : ℕ → ℕ) (g : List ℕ) → length (part b 0 g) + length (part b 1 g) ≤ length g
 unfolding part
 parts-length b [] = omega arith
 parts-length b (i ∷ g) = go (b i) refl (parts-length b g)
@@ -84,6 +84,24 @@ parts-length b (i ∷ g) = go (b i) refl (parts-length b g)
     go zero e r = rw (part-yes b 0 i g e, part-no b 1 i g (λ q. omega arith)) (omega arith)
     go (suc zero) e r = rw (part-no b 0 i g (λ q. omega arith), part-yes b 1 i g e) (omega arith)
     go (suc (suc v)) e r = rw (part-no b 0 i g (λ q. omega arith), part-no b 1 i g (λ q. omega arith)) (omega arith)
+
+pub pushed-append : (g : List ℕ) (gs : List (List ℕ)) → pushed g gs ≡ pushed g [] ++ gs
+unfolding pushed
+pushed-append [] gs = refl
+pushed-append (i ∷ []) gs = refl
+pushed-append (i ∷ j ∷ g) gs = refl
+
+pub pushed-few : (g : List ℕ) → length g < 2 → pushed g [] ≡ []
+unfolding pushed
+pushed-few [] h = refl
+pushed-few (i ∷ []) h = refl
+pushed-few (i ∷ j ∷ g) h = absurd (omega arith)
+
+pub pushed-many : (g : List ℕ) → 2 ≤ length g → pushed g [] ≡ g ∷ []
+unfolding pushed
+pushed-many [] h = absurd (omega arith)
+pushed-many (i ∷ []) h = absurd (omega arith)
+pushed-many (i ∷ j ∷ g) h = refl
 
 pub pushed-all : (P : List ℕ → Type 0) (g : List ℕ) (gs : List (List ℕ)) → (2 ≤ length g → P g) → All P gs → All P (pushed g gs)
 unfolding pushed
@@ -103,6 +121,16 @@ unfolding members pushed
 pushed-members [] gs = omega arith
 pushed-members (i ∷ []) gs = omega arith
 pushed-members (i ∷ j ∷ g) gs = omega arith
+
+pub members-append : (gs hs : List (List ℕ)) → members (gs ++ hs) ≡ members gs + members hs
+unfolding members
+members-append [] hs = omega arith
+members-append (g ∷ gs) hs = omega (arith, members-append gs hs)
+
+pub members-many : (gs : List (List ℕ)) → All (λ g. 2 ≤ length g) gs → 2 * length gs ≤ members gs
+unfolding members
+members-many [] a = omega arith
+members-many (g ∷ gs) a = omega (arith, a .0, members-many gs (a .1))
 
 pub refined-members : (b : ℕ → ℕ) (gs : List (List ℕ)) → members (refined b gs) ≤ members gs
 unfolding refined members

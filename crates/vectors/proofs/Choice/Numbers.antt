@@ -1,7 +1,7 @@
--- Values of variables and the number that a list of them makes of a vector. Assumes nothing.
+-- Numbers over one more variable, and over the single inputs. Assumes nothing.
 use Prim.Native.Nat.{ℕ, zero, suc, _+_, _*_, _/_, _^_, _<_}
 use native.Mathlib.Omega.{arith}
-use native.Mathlib.Nat.{add-zero, pow-succ', mul-assoc, div-one}
+use native.Mathlib.Nat.{add-zero, pow-succ', div-one}
 use native.Mathlib.Numerals.{add-one}
 use mathlib.Core.Path.{_≡_, refl, ap, ap₂, sym, _∙_}
 use mathlib.Core.List.{List, [], _∷_, _++_, map}
@@ -9,41 +9,27 @@ use lib.ListN.{length}
 use lib.Pow.{shr-shr}
 use Rattle.lists.proofs.Members.{All}
 use Rattle.vectors.specs.declared.Kind.{Kind}
-use Rattle.vectors.specs.declared.Kind.the-variants.{One, Two}
-use Rattle.vectors.specs.Bits.{input}
+use Rattle.vectors.specs.declared.Kind.the-variants.{One}
 use Rattle.vectors.specs.Variable.{valueOf, numberOf}
 use Rattle.vectors.specs.Choice.{ones}
-
-input-lt : (x i : ℕ) → input x i < 2
-input-lt x zero = omega arith
-input-lt x (suc i) = omega arith
-
-pub value-lt : (x : ℕ) (k : Kind) → valueOf x k < 2
-unfolding valueOf
-value-lt x (One i) = input-lt x i
-value-lt x (Two i j) = omega arith
-
-pub number-append : (ls bs : List Kind) (x : ℕ) → numberOf (ls ++ bs) x ≡ numberOf ls x + 2 ^ length ls * numberOf bs x
-unfolding numberOf
-number-append [] bs x = omega arith
-number-append (l ∷ ls) bs x = rw (pow-succ' 2 (length ls), mul-assoc 2 (2 ^ length ls) (numberOf bs x)) (omega (arith, number-append ls bs x))
+use Rattle.vectors.proofs.Numbers.{value-lt, number-append}
 
 -- ---- numbers over one more variable
 
-pub number-split : (ws : List Kind) (c : Kind) (u v : ℕ) → numberOf (ws ++ (c ∷ [])) u ≡ numberOf (ws ++ (c ∷ [])) v
+pub snoc-split : (ws : List Kind) (c : Kind) (u v : ℕ) → numberOf (ws ++ (c ∷ [])) u ≡ numberOf (ws ++ (c ∷ [])) v
     → (numberOf ws u ≡ numberOf ws v) × (valueOf u c ≡ valueOf v c)
 unfolding numberOf
-number-split [] c u v e = (refl, omega arith)
-number-split (w ∷ ws) c u v e =
+snoc-split [] c u v e = (refl, omega arith)
+snoc-split (w ∷ ws) c u v e =
     let a = value-lt u w in
     let b = value-lt v w in
-    let r = number-split ws c u v (omega arith) in
+    let r = snoc-split ws c u v (omega arith) in
     (omega arith, r .1)
 
-pub number-join : (ws : List Kind) (c : Kind) (u v : ℕ) → numberOf ws u ≡ numberOf ws v → valueOf u c ≡ valueOf v c
+pub snoc-join : (ws : List Kind) (c : Kind) (u v : ℕ) → numberOf ws u ≡ numberOf ws v → valueOf u c ≡ valueOf v c
     → numberOf (ws ++ (c ∷ [])) u ≡ numberOf (ws ++ (c ∷ [])) v
 unfolding numberOf
-number-join ws c u v e g = number-append ws (c ∷ []) u ∙ ap₂ (λ x y. x + 2 ^ length ws * (y + 2 * 0)) e g ∙ sym (number-append ws (c ∷ []) v)
+snoc-join ws c u v e g = number-append ws (c ∷ []) u ∙ ap₂ (λ x y. x + 2 ^ length ws * (y + 2 * 0)) e g ∙ sym (number-append ws (c ∷ []) v)
 
 -- ---- the single inputs
 

@@ -39,7 +39,8 @@ module _ (f g : ℕ → ℕ) (finer : (u v : ℕ) → g u ≡ g v → f u ≡ f 
   count-finer u [] = omega arith
   count-finer u (x ∷ l) = omega (arith, count-finer u l, one-le (finer u x))
 
-  pairs-finer : (l : List ℕ) → pairs (map g l) ≤ pairs (map f l)
+  -- what is equal under g is equal under f: g leaves no more pairs
+  pub pairs-finer : (l : List ℕ) → pairs (map g l) ≤ pairs (map f l)
   unfolding pairs
   pairs-finer [] = omega arith
   pairs-finer (x ∷ l) = omega (arith, count-finer x l, pairs-finer l)

@@ -2,18 +2,14 @@
 use Prim.Native.Nat.{ℕ, suc, _≤_, _<_, min}
 use native.Mathlib.Omega.{arith}
 use mathlib.Core.Path.{_≡_, refl, sym, _∙_}
-use mathlib.Core.List.{List, [], _∷_, _++_, map}
+use mathlib.Core.List.{List, [], _∷_}
 use mathlib.Core.Logic.{inl, inr, ⊎-elim}
-use lib.ListN.{length, getD, length-map}
+use lib.ListN.{length, getD}
 use Rattle.lists.specs.First.{repeated}
 use Rattle.lists.proofs.Tests.{le-or-lt}
-use Rattle.lists.proofs.Members.{In, All, all-in, getD-map}
+use Rattle.lists.proofs.Members.{In, All, all-in}
 use Rattle.lists.proofs.Repeats.{repeated-none, repeated-at}
-use Rattle.vectors.specs.declared.Kind.{Kind}
-use Rattle.vectors.specs.Variable.{valueOf, numberOf}
-use Rattle.vectors.proofs.Choice.Numbers.{value-lt, number-split, number-join}
-use Rattle.vectors.proofs.Choice.Groups.{refined, whole}
-use Rattle.vectors.proofs.Choice.Classed.{Rising, Class, Classed, classed-none, classed-more}
+use Rattle.vectors.proofs.Choice.Classed.{Rising, Class, Classed}
 
 -- a group's second member; k stands for none
 unfoldable pub secondOf : ℕ → List ℕ → ℕ
@@ -77,53 +73,26 @@ seconds-again f k (g ∷ l ∷ gs) a h = go (seconds-again f k (l ∷ gs) (a .1)
         (λ p. let e : min (secondOf k g) m ≡ m = omega arith in rw e r)
         (le-or-lt (secondOf k g) m)
 
-module _ {f : ℕ → ℕ} {k : ℕ} {gs : List (List ℕ)} (c : Classed f k gs) (xs : List ℕ) (long : length xs ≡ k) (is : (i : ℕ) → i < k → getD xs i 0 ≡ f i) where
-  -- no group: no entry repeats
-  pub classed-apart : gs ≡ [] → repeated xs ≡ 0
-  classed-apart e =
-      repeated-none xs
-      (λ a b h l p.
-      let t = c .together a b h (omega arith) (sym (is a (omega arith)) ∙ p ∙ is b (omega arith)) in
-      let none : In (t .group) [] = rw e at (t .among) in
-      none)
+-- no group: no entry repeats, where entries that are equal agree
+pub classed-apart : {f : ℕ → ℕ} {k : ℕ} {gs : List (List ℕ)} → Classed f k gs → (xs : List ℕ) → length xs ≡ k
+    → ((i j : ℕ) → i < k → j < k → getD xs i 0 ≡ getD xs j 0 → f i ≡ f j) → gs ≡ [] → repeated xs ≡ 0
+classed-apart c xs long finer e =
+    repeated-none xs
+    (λ a b h l p.
+    let t = c .together a b h (omega arith) (finer a b (omega arith) (omega arith) p) in
+    let none : In (t .group) [] = rw e at (t .among) in
+    none)
 
-  -- else the first that repeats is the smallest second member
-  pub classed-first : 0 < length gs → repeated xs ≡ suc (secondsMin k gs)
-  classed-first h =
-      let s = seconds-again f k gs (c .each) h in
-      let m = secondsMin k gs in
-      repeated-at xs (s .i) m (s .before) (omega (arith, s .below)) (is (s .i) (omega (arith, s .before, s .below)) ∙ s .same ∙ sym (is m (s .below)))
-      (λ a b q r p.
-      let u : a < k = omega (arith, s .below) in
-      let v : b < k = omega (arith, s .below) in
-      let t = c .together a b q v (sym (is a u) ∙ p ∙ is b v) in
-      let w = all-in (Class f k) (t .group) gs (c .each) (t .among) in
-      omega (arith, seconds-le k (t .group) gs (t .among), second-le k a b (t .group) (w .rising) (t .first) (t .second) q))
-
--- ---- vectors that agree on a list of variables
-
--- the groups are those of the vectors that agree on the variables
-abbrev pub Agreeing : List ℕ → List Kind → List (List ℕ) → Type 0
-Agreeing vs ks gs = Classed (λ i. numberOf ks (getD vs i 0)) (length vs) gs
-
-module _ (vs : List ℕ) where
-  pub agreeing-none : Agreeing vs [] (whole (length vs))
-  unfolding numberOf
-  agreeing-none = classed-none (λ i. 0) (length vs) (λ i j. refl)
-
-  module _ (ks : List Kind) (gs : List (List ℕ)) (r : Agreeing vs ks gs) where
-    pub agreeing-more : (c : Kind) → Agreeing vs (ks ++ (c ∷ [])) (refined (λ i. valueOf (getD vs i 0) c) gs)
-    agreeing-more c =
-        classed-more (λ i. numberOf ks (getD vs i 0)) (λ i. numberOf (ks ++ (c ∷ [])) (getD vs i 0)) (λ i. valueOf (getD vs i 0) c) (length vs) gs
-        (λ i. value-lt (getD vs i 0) c) (λ i j. number-split ks c (getD vs i 0) (getD vs j 0)) (λ i j. number-join ks c (getD vs i 0) (getD vs j 0)) r
-
-    entry : (i : ℕ) → i < length vs → getD (map (numberOf ks) vs) i 0 ≡ numberOf ks (getD vs i 0)
-    entry i h = getD-map (numberOf ks) vs i 0 0 h
-
-    -- no vector agrees with an earlier one
-    pub agreeing-apart : gs ≡ [] → repeated (map (numberOf ks) vs) ≡ 0
-    agreeing-apart = classed-apart r (map (numberOf ks) vs) (length-map vs (numberOf ks)) entry
-
-    -- the first vector that does
-    pub agreeing-first : 0 < length gs → repeated (map (numberOf ks) vs) ≡ suc (secondsMin (length vs) gs)
-    agreeing-first = classed-first r (map (numberOf ks) vs) (length-map vs (numberOf ks)) entry
+-- else the first that repeats is the smallest second member
+pub classed-first : {f : ℕ → ℕ} {k : ℕ} {gs : List (List ℕ)} → Classed f k gs → (xs : List ℕ) → length xs ≡ k → ((i : ℕ) → i < k → getD xs i 0 ≡ f i)
+    → 0 < length gs → repeated xs ≡ suc (secondsMin k gs)
+classed-first {f} {k} {gs} c xs long is h =
+    let s = seconds-again f k gs (c .each) h in
+    let m = secondsMin k gs in
+    repeated-at xs (s .i) m (s .before) (omega (arith, s .below)) (is (s .i) (omega (arith, s .before, s .below)) ∙ s .same ∙ sym (is m (s .below)))
+    (λ a b q r p.
+    let u : a < k = omega (arith, s .below) in
+    let v : b < k = omega (arith, s .below) in
+    let t = c .together a b q v (sym (is a u) ∙ p ∙ is b v) in
+    let w = all-in (Class f k) (t .group) gs (c .each) (t .among) in
+    omega (arith, seconds-le k (t .group) gs (t .among), second-le k a b (t .group) (w .rising) (t .first) (t .second) q))

@@ -7,12 +7,12 @@ use mathlib.Core.Path.{_≡_, refl, ap, sym, _∙_, fun-ext}
 use mathlib.Core.Bool.{Bool, true, false, cond}
 use mathlib.Core.List.{List, [], _∷_, map}
 use lib.Dec.{eqb, ltb}
-use lib.ListN.{length, getD}
+use lib.ListN.{length, getD, length-map}
 use borrow.Author.Tests.{ltb-true, ltb-false, lt-ltb, le-ltb}
 use Rattle.vectors.specs.declared.Kind.{Kind}
 use Rattle.vectors.specs.Variable.{valueOf, numberOf}
 use Rattle.vectors.specs.Choice.{count, pairs, leaves, fewest, bestOf, nextOf}
-use Rattle.vectors.proofs.Choice.Numbers.{value-lt}
+use Rattle.vectors.proofs.Numbers.{value-lt}
 use Rattle.vectors.proofs.Choice.Groups.{pairsIn, members}
 use Rattle.vectors.proofs.Choice.Grouped.{Grouped}
 
@@ -29,6 +29,17 @@ unfoldable pub squares : (ℕ → ℕ) → List (List ℕ) → ℕ
 unfolding tally
 squares b [] = 0
 squares b (g ∷ gs) = square (tally b g) (length g) + squares b gs
+
+pub tally-map : (b f : ℕ → ℕ) (g : List ℕ) → tally b (map f g) ≡ tally (λ i. b (f i)) g
+unfolding tally
+tally-map b f [] = refl
+tally-map b f (i ∷ g) = ap (λ n. b (f i) + n) (tally-map b f g)
+
+-- of groups of entries, and of groups of indices
+pub squares-map : (b f : ℕ → ℕ) (gs : List (List ℕ)) → squares b (map (map f) gs) ≡ squares (λ i. b (f i)) gs
+unfolding squares
+squares-map b f [] = refl
+squares-map b f (g ∷ gs) = rw (tally-map b f g, length-map g f, squares-map b f gs)
 
 next-square : (x : ℕ) → suc x * suc x ≡ x * x + 2 * x + 1
 next-square x = omega (arith, suc-mul x (suc x), mul-suc x x)

@@ -6,7 +6,7 @@ use native.Mathlib.Omega.{arith}
 use mathlib.Core.Path.{_≡_, refl, sym, ap, _∙_}
 use mathlib.Core.Bool.{false, _||_}
 use mathlib.Core.List.{List, [], _∷_, _++_, map, append-nil}
-use borrow.Author.Tests.{leb-false, ltb-false}
+use borrow.Author.Tests.{leb-false, ltb-false, le-ltb}
 use lib.Dec.{eqb, leb, ltb}
 use lib.Bits.{xor-zero-r}
 use lib.ListN.{length, getD, drop}
@@ -46,6 +46,19 @@ edge n (Two i j) h =
     let l : i < j = leb-false j i (or-false (eqb i 0) (leb j i) (f .0) .1) in
     let m : j ≤ n = ltb-false n j (f .1) in
     record { one = omega arith; other = m }
+
+-- a variable within n inputs is within more
+pub faulty-within : (n m : ℕ) (k : Kind) → n ≤ m → faulty n k ≡ false → faulty m k ≡ false
+faulty-within n m (One i) l h =
+    let f = or-false (eqb i 0) (ltb n i) h in
+    rw (f .0, le-ltb m i (omega (arith, ltb-false n i (f .1))))
+faulty-within n m (Two i j) l h =
+    let f = or-false (eqb i 0 || leb j i) (ltb n j) h in
+    rw (f .0, le-ltb m j (omega (arith, ltb-false n j (f .1))))
+
+pub all-within : (n m : ℕ) (ks : List Kind) → n ≤ m → All (λ k. faulty n k ≡ false) ks → All (λ k. faulty m k ≡ false) ks
+all-within n m [] l f = tt
+all-within n m (k ∷ ks) l f = (faulty-within n m k l (f .0), all-within n m ks l (f .1))
 
 -- ---- one variable
 

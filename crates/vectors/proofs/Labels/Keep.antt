@@ -1,6 +1,6 @@
 -- Going through the inputs with labels: the mask of the kept ones. Assumes nothing.
 use Prim.Native.Nat.{ℕ, suc, _+_, _-_, _*_, _^_, _<_}
-use native.Mathlib.Nat.{zero-add, one-mul, pow-suc, mul-assoc, mul-add, mul-one, add-assoc, mul-zero}
+use native.Mathlib.Nat.{zero-add, one-mul, mul-add, mul-one, add-assoc, mul-zero}
 use native.Mathlib.Numerals.{add-one}
 use native.Mathlib.Omega.{arith}
 use mathlib.Core.Path.{_≡_, sym, ap, ap₂, _∙_}
@@ -12,6 +12,7 @@ use Rattle.lists.proofs.Members.{All}
 use Rattle.vectors.specs.declared.Kind.{Kind}
 use Rattle.vectors.specs.Variable.{maskOf, faulty}
 use Rattle.vectors.specs.Span.{spans, keptIn, kept}
+use Rattle.vectors.proofs.BitsLaws.{pow-next, shift-next}
 use Rattle.vectors.proofs.Spans.{kept-yes, kept-no}
 use Rattle.vectors.proofs.Labels.Tied.{merged, Tied, spans-node, tied-node}
 use Rattle.vectors.proofs.Labels.Edges.{nodesFrom, labelsOn, tied-labels}
@@ -37,20 +38,16 @@ module _ (n total : ℕ) (c : List ℕ) (mask j : ℕ) (l : n < length c) (h : j
   step : n - j ≡ suc (n - (j + 1))
   step = omega arith
 
-  next-pow : (x : ℕ) → 2 ^ j * (2 * x) ≡ 2 ^ (j + 1) * x
-  next-pow x = sym (mul-assoc (2 ^ j) 2 x) ∙ ap (λ (t : ℕ). t * x) (sym (pow-suc 2 j) ∙ ap (λ (t : ℕ). 2 ^ t) (sym (add-one j)))
-
   -- the input is spanned
   pub keeping-on : getD c (j + 1) 0 ≡ getD c 0 0 → Keeping n total c mask (j + 1)
   keeping-on e =
       let s : spans (k .ms) (2 ^ j) ≡ true = spans-node (k .ms) c (k .tied) j (omega arith) ∙ eq-eqb _ _ (rw (add-one j) at e) in
-      let p : 2 ^ (j + 1) ≡ 2 ^ j * 2 = ap (λ (t : ℕ). 2 ^ t) (add-one j) ∙ pow-suc 2 j in
       record {
         ms = k .ms;
         tied = k .tied;
-        low = omega (arith, k .low);
+        low = omega (arith, k .low, pow-next j);
         rest = k .rest ∙ ap (λ (t : ℕ). mask + 2 ^ j * t) (rw step (kept-yes _ j (k .ms) s))
-            ∙ ap (λ (t : ℕ). mask + t) (next-pow _) ∙ ap (λ (t : ℕ). mask + 2 ^ (j + 1) * keptIn (n - (j + 1)) t (k .ms)) (sym (add-one j));
+            ∙ ap (λ (t : ℕ). mask + t) (shift-next j _) ∙ ap (λ (t : ℕ). mask + 2 ^ (j + 1) * keptIn (n - (j + 1)) t (k .ms)) (sym (add-one j));
       }
 
   -- the input is kept
@@ -58,14 +55,13 @@ module _ (n total : ℕ) (c : List ℕ) (mask j : ℕ) (l : n < length c) (h : j
       → mask′ ≡ mask + 2 ^ j → Keeping n total c′ mask′ (j + 1)
   keeping-more c′ mask′ e m q =
       let s : spans (k .ms) (2 ^ j) ≡ false = spans-node (k .ms) c (k .tied) j (omega arith) ∙ ne-eqb _ _ (rw (add-one j) at e) in
-      let p : 2 ^ (j + 1) ≡ 2 ^ j * 2 = ap (λ (t : ℕ). 2 ^ t) (add-one j) ∙ pow-suc 2 j in
       record {
         ms = 2 ^ j ∷ k .ms;
         tied = rw (m, add-one j) (tied-node (k .ms) c (k .tied) j (omega arith));
-        low = omega (arith, k .low);
+        low = omega (arith, k .low, pow-next j);
         rest = k .rest ∙ ap (λ (t : ℕ). mask + 2 ^ j * t) (rw step (kept-no _ j (k .ms) s))
             ∙ ap (λ (t : ℕ). mask + t) (mul-add (2 ^ j) 1 _)
-            ∙ ap₂ (λ (t u : ℕ). mask + (t + u)) (mul-one (2 ^ j)) (next-pow _)
+            ∙ ap₂ (λ (t u : ℕ). mask + (t + u)) (mul-one (2 ^ j)) (shift-next j _)
             ∙ sym (add-assoc mask (2 ^ j) _) ∙ ap₂ (λ (t u : ℕ). t + 2 ^ (j + 1) * keptIn (n - (j + 1)) u (2 ^ j ∷ k .ms)) (sym q) (sym (add-one j));
       }
 

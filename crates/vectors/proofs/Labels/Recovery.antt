@@ -20,7 +20,7 @@ use Rattle.vectors.specs.Word.{packIn}
 use Rattle.vectors.proofs.BitsLaws.{bit-suc, half-lt}
 use Rattle.vectors.proofs.Packing.{pack-even, pack-odd}
 use Rattle.vectors.proofs.Spans.{spans-middle, kept-yes, kept-no, ones-even, ones-odd}
-use Rattle.vectors.proofs.Labels.Tied.{Tied, tied-same, spans-node, tied-node}
+use Rattle.vectors.proofs.Labels.Tied.{twice-even, shared-out, Tied, tied-same, spans-node, tied-node}
 use Rattle.vectors.proofs.Labels.Edges.{oneEnd, otherEnd, Edge, edge, tied-kind, spans-kind}
 use Rattle.vectors.proofs.Labels.Cells.{half, half-at, half-joined, joined, startCells, cellsOn, groundedOn, tied-cells, length-start, length-joined, length-cells, Says, says-new, says-cells, says-grounded, grounded-skip, grounded-join}
 
@@ -50,19 +50,13 @@ read-at (suc d) j c (suc i) h =
     ∙ rw (add-suc j i, suc-add j i)
 
 input-read : (n : ℕ) (c : List ℕ) (i : ℕ) → i ≤ n → input (readOff n 0 c) i ≡ (getD c i 0 + getD c 0 0) % 2
-input-read n c zero h = sym (twice (getD c 0 0))
-  where
-    twice : (a : ℕ) → (a + a) % 2 ≡ 0
-    twice a = omega arith
+input-read n c zero h = sym (twice-even (getD c 0 0))
 input-read n c (suc i) h = read-at n 0 c i (omega arith) ∙ rw (zero-add i)
 
 value-read : (n : ℕ) (c : List ℕ) (k : Kind) (z : ℕ) → Edge n k → Says c (oneEnd k) (otherEnd k) z → valueOf (readOff n 0 c) k ≡ z
 unfolding valueOf
 value-read n c (One i) z e s = input-read n c i (e .one) ∙ s .1
-value-read n c (Two i j) z e s = rw (input-read n c i (e .one), input-read n c j (e .other)) (middle (getD c i 0) (getD c j 0) (getD c 0 0) ∙ s .1)
-  where
-    middle : (a b g : ℕ) → ((a + g) % 2 + (b + g) % 2) % 2 ≡ (a + b) % 2
-    middle a b g = omega arith
+value-read n c (Two i j) z e s = rw (input-read n c i (e .one), input-read n c j (e .other)) (shared-out (getD c i 0) (getD c j 0) (getD c 0 0) ∙ s .1)
 
 -- ---- every variable's value holds
 

@@ -55,27 +55,28 @@ unfolding colour
 colour-linear g [] = record { low = λ u. omega arith; zero = refl; xor = λ u v. refl }
 colour-linear g (c ∷ cs) = parity-linear (numeral (map (λ (l : ℕ). g l + g c) cs))
 
-twice : (n : ℕ) → (n + n) % 2 ≡ 0
-twice n = omega arith
+pub twice-even : (n : ℕ) → (n + n) % 2 ≡ 0
+twice-even n = omega arith
 
 colour-node : (g : ℕ → ℕ) (c : List ℕ) (v : ℕ) → v < length c → colour g c (placeOf v) ≡ (g (getD c v 0) + g (getD c 0 0)) % 2
 unfolding colour
 colour-node g [] v h = absurd (omega arith)
-colour-node g (c ∷ cs) zero h = colour-linear g (c ∷ cs) .zero ∙ sym (twice (g c))
+colour-node g (c ∷ cs) zero h = colour-linear g (c ∷ cs) .zero ∙ sym (twice-even (g c))
 colour-node g (c ∷ cs) (suc i) h =
     parity-bit (numeral (map (λ (l : ℕ). g l + g c) cs)) i
     ∙ numeral-bit (map (λ (l : ℕ). g l + g c) cs) i
     ∙ ap (λ (n : ℕ). n % 2) (getD-map (λ (l : ℕ). g l + g c) cs i 0 0 (omega arith))
 
-middle : (a b z : ℕ) → ((a + z) % 2 + (b + z) % 2) % 2 ≡ (a + b) % 2
-middle a b z = omega arith
+-- what two sums share falls out
+pub shared-out : (a b z : ℕ) → ((a + z) % 2 + (b + z) % 2) % 2 ≡ (a + b) % 2
+shared-out a b z = omega arith
 
 colour-pair : (g : ℕ → ℕ) (c : List ℕ) (a b : ℕ) → a < length c → b < length c
     → colour g c (pair a b) ≡ (g (getD c a 0) + g (getD c b 0)) % 2
 colour-pair g c a b ha hb =
     colour-linear g c .xor (placeOf a) (placeOf b)
     ∙ ap₂ (λ (p q : ℕ). (p + q) % 2) (colour-node g c a ha) (colour-node g c b hb)
-    ∙ middle (g (getD c a 0)) (g (getD c b 0)) (g (getD c 0 0))
+    ∙ shared-out (g (getD c a 0)) (g (getD c b 0)) (g (getD c 0 0))
 
 colour-map : (g r : ℕ → ℕ) (c : List ℕ) (w : ℕ) → colour g (map r c) w ≡ colour (λ (x : ℕ). g (r x)) c w
 unfolding colour
@@ -155,7 +156,7 @@ module _ (ms c : List ℕ) (a b : ℕ) (ha : a < length c) (hb : b < length c) (
       edge =
           colour-pair g′ c a b ha hb
           ∙ ap₂ (λ (x y : ℕ). (g x + g y) % 2) (relabel-from (getD c a 0) (getD c b 0)) (relabel-to (getD c a 0) (getD c b 0))
-          ∙ twice (g (getD c b 0))
+          ∙ twice-even (g (getD c b 0))
 
   pub tied-merge : Tied (pair a b ∷ ms) (merged c a b)
   tied-merge =

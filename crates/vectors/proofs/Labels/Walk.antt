@@ -1,6 +1,6 @@
 -- The loops of recovery: joining by the variables, joining the kept inputs to the ground, reading off. Assumes nothing.
 use Prim.Native.Nat.{ℕ, zero, suc, _+_, _-_, _*_, _/_, _%_, _^_, _≤_, _<_}
-use native.Mathlib.Nat.{zero-add, pow-suc, one-mul, mul-assoc, mul-add, mul-one, mul-zero, add-assoc}
+use native.Mathlib.Nat.{zero-add, one-mul, mul-add, mul-one, mul-zero, add-assoc}
 use native.Mathlib.Numerals.{add-one}
 use native.Mathlib.Omega.{arith}
 use mathlib.Core.Path.{_≡_, refl, sym, ap, ap₂, _∙_}
@@ -8,6 +8,7 @@ use mathlib.Core.List.{List}
 use lib.ListN.{length, getD, drop}
 use lib.Seq.{drop-cons, drop-length}
 use Rattle.vectors.specs.declared.Kind.{Kind}
+use Rattle.vectors.proofs.BitsLaws.{pow-next, shift-next}
 use Rattle.vectors.proofs.Labels.Edges.{oneEnd, otherEnd}
 use Rattle.vectors.proofs.Labels.Cells.{joined, cellsOn, groundedOn, grounded-skip, grounded-join}
 use Rattle.vectors.proofs.Labels.Recovery.{readOff}
@@ -59,16 +60,14 @@ pub reading-on : (n : ℕ) (c : List ℕ) (x j b x′ : ℕ) → j < n → b ≡
 unfolding readOff
 reading-on n c x j b x′ h e q r =
     let s : n - j ≡ suc (n - (j + 1)) = omega arith in
-    let p : 2 ^ (j + 1) ≡ 2 ^ j * 2 = ap (λ (t : ℕ). 2 ^ t) (add-one j) ∙ pow-suc 2 j in
     let y : ℕ = readOff (n - (j + 1)) (suc j) c in
     let f : readOff (n - j) j c ≡ b + 2 * y = rw (s, e, add-one j) refl in
     let l : 2 ^ j * b ≤ 2 ^ j = times-bit (2 ^ j) b (omega arith) in
-    let m : 2 ^ j * (2 * y) ≡ 2 ^ (j + 1) * y = sym (mul-assoc (2 ^ j) 2 y) ∙ ap (λ (t : ℕ). t * y) (sym p) in
     record {
-      low = omega (arith, r .low);
+      low = omega (arith, r .low, pow-next j);
       rest = r .rest ∙ ap (λ (t : ℕ). x + 2 ^ j * t) f ∙ ap (λ (t : ℕ). x + t) (mul-add (2 ^ j) b (2 * y))
           ∙ sym (add-assoc x (2 ^ j * b) (2 ^ j * (2 * y)))
-          ∙ ap₂ _+_ (sym q) (m ∙ ap (λ (t : ℕ). 2 ^ (j + 1) * readOff (n - (j + 1)) t c) (sym (add-one j)));
+          ∙ ap₂ _+_ (sym q) (shift-next j y ∙ ap (λ (t : ℕ). 2 ^ (j + 1) * readOff (n - (j + 1)) t c) (sym (add-one j)));
     }
 
 pub reading-end : (n : ℕ) (c : List ℕ) (x j : ℕ) → j ≡ n → Reading n c x j → x ≡ readOff n 0 c

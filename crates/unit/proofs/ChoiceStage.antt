@@ -1,0 +1,126 @@
+-- The choice by groups: what holds when p variables are taken. Assumes nothing.
+use Prim.Native.Nat.{ℕ, suc, _+_, _-_, _%_, _^_, _≤_, _<_}
+use native.Mathlib.Omega.{arith}
+use native.Mathlib.Numerals.{add-one}
+use mathlib.Core.Path.{_≡_, refl, sym, ap, _∙_, fun-ext}
+use mathlib.Core.Bool.{Bool, true, false}
+use mathlib.Core.List.{List, [], _∷_, _++_, map, map-append}
+use lib.Dec.{eqb}
+use lib.ListN.{length, getD, take, set, length-set}
+use lib.Seq.{take-suc-set, length-take-le}
+use borrow.Author.Tests.{eq-eqb, ne-eqb}
+use Rattle.lists.proofs.Tests.{eqb-iff}
+use Rattle.vectors.specs.declared.Kind.{Kind}
+use Rattle.vectors.specs.declared.Variable.{Variable}
+use Rattle.vectors.specs.Variable.{valueOf, maskOf, kindsOf}
+use Rattle.vectors.specs.Choice.{left, apart, bestOf, nextOf, chooseIn, choose, candidates}
+use Rattle.vectors.proofs.Numbers.{value-word, kinds-length}
+use Rattle.vectors.proofs.Choice.Steps.{choose-stop, choose-more}
+use Rattle.vectors.proofs.Choice.Groups.{refined, whole}
+use Rattle.vectors.proofs.Choice.Grouped.{Grouped, grouped-none, grouped-more, grouped-apart, grouped-empty}
+use Rattle.vectors.proofs.Choice.Squares.{squares, squareOf, squares-map, squares-next}
+use Rattle.unit.specs.declared.groups.Groups.{Groups}
+use Rattle.unit.specs.Bounds.{maxInputs, maxVariables}
+use Rattle.unit.specs.Inner.Masks.{valueBy}
+use Rattle.unit.specs.Inner.Groups.{cut, Shape, GroupsAre, groupsOf, sizesOf, orderOf, valueAt}
+use Rattle.unit.specs.Inner.Choice.{scoreOf, ChosenIs}
+use Rattle.unit.proofs.GroupsCut.{cut-map, cut-length}
+
+-- no group is left exactly when the count is 0
+count-none : (k : ℕ) (g : Groups) → Shape k g → g .count ≡ 0 → groupsOf g ≡ []
+unfolding cut
+count-none k g s e = rw e
+
+none-count : (k : ℕ) (g : Groups) → Shape k g → groupsOf g ≡ [] → g .count ≡ 0
+none-count k g s e = omega (arith, cut-length (sizesOf g) (orderOf g), ap length e, length-take-le (g .count) (g .sizes) (s .places))
+
+-- ---- masks and words in place of variables and indices
+
+module _ (vs : List ℕ) (fits : (i : ℕ) → getD vs i 0 < 2 ^ maxInputs) where
+  value-at : (c : Kind) → valueAt vs (maskOf c % 2 ^ maxInputs) ≡ (λ i. valueOf (getD vs i 0) c)
+  value-at c = fun-ext (λ i. value-word maxInputs (getD vs i 0) c (fits i))
+
+  pub score-square : (sizes order : List ℕ) → scoreOf sizes (map (λ i. getD vs i 0) order) ≡ squareOf vs (cut sizes order)
+  score-square sizes order =
+      fun-ext
+      (λ c.
+      ap (squares (valueBy (maskOf c % 2 ^ maxInputs))) (cut-map (λ i. getD vs i 0) sizes order)
+      ∙ squares-map (valueBy (maskOf c % 2 ^ maxInputs)) (λ i. getD vs i 0) (cut sizes order)
+      ∙ ap (λ b. squares b (cut sizes order)) (value-at c))
+
+-- ---- a turn
+
+abbrev pub takenIn : List Variable → ℕ → List Kind
+takenIn variables p = kindsOf (take p variables)
+
+pub record Stage (vs : List ℕ) (cs : List Kind) (g : Groups) (variables : List Variable) (p : ℕ) : Type 0 where
+  pub within : p ≤ maxVariables
+  pub size : length variables ≡ maxVariables
+  pub shape : Shape (length vs) g
+  pub grouped : Grouped vs (takenIn variables p) (groupsOf g)
+  pub same : chooseIn (maxVariables - p) cs vs (takenIn variables p) ≡ chooseIn maxVariables cs vs []
+
+pub stage-none : (vs : List ℕ) (cs : List Kind) (g : Groups) (variables : List Variable) → length variables ≡ maxVariables
+    → GroupsAre (length vs) (whole (length vs)) g → Stage vs cs g variables 0
+stage-none vs cs g variables h a = record { within = omega arith; size = h; shape = a .shape; grouped = rw (a .are) (grouped-none vs); same = refl }
+
+module _ {vs : List ℕ} {cs : List Kind} {g : Groups} {variables : List Variable} {p : ℕ} (s : Stage vs cs g variables p) where
+  apart-is : apart vs (takenIn variables p) ≡ eqb (g .count) 0
+  unfolding apart
+  apart-is =
+      eqb-iff {a = left vs (takenIn variables p)} {b = 0} {c = g .count} {d = 0}
+      (λ e. none-count (length vs) g (s .shape) (grouped-apart (s .grouped) e)) (λ e. grouped-empty (s .grouped) (count-none (length vs) g (s .shape) e))
+
+  -- the rule's next variable, and the groups after it
+  pub stage-more : (part : Kind → Variable) (words : List ℕ) (c : Kind) (m : ℕ) (g′ : Groups) → p < maxVariables → (g .count ≡ 0 → ⊥) → ((i : ℕ) → getD vs i 0 < 2 ^ maxInputs)
+      → part c .kind ≡ c → words ≡ map (λ i. getD vs i 0) (orderOf g) → c ≡ bestOf (scoreOf (sizesOf g) words) cs → m ≡ maskOf c % 2 ^ maxInputs
+      → GroupsAre (length vs) (refined (valueAt vs m) (groupsOf g)) g′ → Stage vs cs g′ (set variables p (part c)) (p + 1)
+  stage-more part words c m g′ h n fits pc w b e a =
+      let next : c ≡ nextOf cs vs (takenIn variables p) =
+      b ∙ ap (λ ws. bestOf (scoreOf (sizesOf g) ws) cs) w ∙ ap (λ f. bestOf f cs) (score-square vs fits (sizesOf g) (orderOf g)) ∙ squares-next (s .grouped) cs in
+      let more : takenIn (set variables p (part c)) (p + 1) ≡ takenIn variables p ++ (c ∷ []) =
+      rw (add-one p, take-suc-set variables p (part c) (omega (arith, s .size)))
+      (map-append (λ v. v .kind) (take p variables) (part c ∷ []) ∙ ap (λ k. takenIn variables p ++ (k ∷ [])) pc) in
+      let d : maxVariables - p ≡ suc (maxVariables - (p + 1)) = omega arith in
+      let no : apart vs (takenIn variables p) ≡ false = apart-is ∙ ne-eqb (g .count) 0 n in
+      record {
+        within = omega arith;
+        size = length-set variables p (part c) ∙ s .size;
+        shape = a .shape;
+        grouped =
+            rw (more, a .are, e)
+            (rw (value-at vs fits c) (grouped-more (s .grouped) c));
+        same =
+            rw more
+            (ap (λ k. chooseIn (maxVariables - (p + 1)) cs vs (takenIn variables p ++ (k ∷ []))) next
+            ∙ sym (choose-more cs vs (maxVariables - (p + 1)) (takenIn variables p) no)
+            ∙ ap (λ f. chooseIn f cs vs (takenIn variables p)) (sym d)
+            ∙ s .same);
+      }
+
+-- ---- the ends
+
+module _ {vs : List ℕ} {n degree : ℕ} {g : Groups} {variables : List Variable} {p : ℕ} (s : Stage vs (candidates n degree) g variables p) where
+  chosen : (t : Bool) → takenIn variables p ≡ chooseIn maxVariables (candidates n degree) vs [] → t ≡ eqb (g .count) 0
+      → ChosenIs vs n degree (record { variables = variables; p = p; apart = t })
+  unfolding choose
+  chosen t e a =
+      record {
+        kinds = e;
+        many = sym (kinds-length variables p (omega (arith, s .within, s .size))) ∙ ap length e;
+        within = s .within;
+        apart = a ∙ sym (apart-is s) ∙ ap (apart vs) e;
+      }
+
+  -- no group is left
+  pub stage-stop : g .count ≡ 0 → ChosenIs vs n degree (record { variables = variables; p = p; apart = true })
+  stage-stop e =
+      let z : eqb (g .count) 0 ≡ true = eq-eqb (g .count) 0 e in
+      chosen true (sym (choose-stop (candidates n degree) vs (maxVariables - p) (takenIn variables p) (apart-is s ∙ z)) ∙ s .same) (sym z)
+
+  -- all variables are taken
+  pub stage-end : maxVariables ≤ p → ChosenIs vs n degree (record { variables = variables; p = p; apart = eqb (g .count) 0 })
+  unfolding chooseIn
+  stage-end h =
+      let d : maxVariables - p ≡ 0 = omega arith in
+      chosen (eqb (g .count) 0) (sym (ap (λ f. chooseIn f (candidates n degree) vs (takenIn variables p)) d) ∙ s .same) refl

@@ -1,0 +1,156 @@
+-- Demand 3, of both builds; and refuted of a build that refuses everything and of one with an invented tries figure. Assumes nothing.
+use Prim.Native.Nat.{ℕ, _+_, _-_, _^_, _≤_}
+use native.Mathlib.Omega.{arith}
+use mathlib.Core.Path.{_≡_, refl, _∙_}
+use mathlib.Core.List.{List, [], _∷_, map}
+use lib.ListN.{length, getD, take, drop, replicate, length-replicate}
+use lib.Seq.{take-at}
+use Rattle.vectors.specs.declared.Kind.{Kind}
+use Rattle.vectors.specs.declared.Kind.the-variants.{One}
+use Rattle.vectors.specs.declared.Part.the-variants.{Row}
+use Rattle.vectors.specs.declared.Variable.{Variable}
+use Rattle.vectors.specs.Variable.{kindsOf}
+use Rattle.vectors.specs.Choice.{choose}
+use Rattle.rows.specs.Care.{Care}
+use Rattle.rows.specs.Place.{all}
+use Rattle.rows.specs.Demand.{Spread, spread}
+use Rattle.rows.proofs.Filled.{filled-blank, blank-zero}
+use Rattle.rows.proofs.Demand3 as placing
+use Rattle.rows.proofs.Held.{lengths}
+use Rattle.unit.specs.Record.{rowsShare, unitOf}
+use Rattle.unit.specs.Refusals.{Refusal}
+use Rattle.unit.specs.Build.{Tables, Outcome, caresFrom, placingOf, outcome, chosenRefusal, buildChosen, givenRefusal, buildGiven}
+use Rattle.unit.specs.Demand3.{Shifted, displacements, Demand3, ChosenBuild, GivenBuild, chosenKinds, Demand3Chosen, Demand3Given}
+use Rattle.unit.specs.Samples.{S, nines}
+use Rattle.unit.proofs.Demands.Finish.{acceptedOutcome, outcome-accepted, accepted-outcome}
+use Rattle.unit.proofs.Demands.Cares.{cares-columns}
+use Rattle.unit.proofs.Demands.Tries.{tries-one}
+
+module _ (n1 : ℕ) (ks : List Kind) (cells : ℕ) (vs : List ℕ) where
+  abbrev cs : List Care
+  cs = caresFrom 1 n1 ks vs
+
+  -- the displacements and the cells at the start
+  abbrev h : List ℕ
+  h = replicate (2 ^ n1) 0
+
+  abbrev g : List ℕ
+  g = replicate cells 0
+
+  placing-shifted : placingOf n1 ks cells vs .end ≡ all → Shifted (caresFrom 1 n1 ks vs) (2 ^ n1) cells (placingOf n1 ks cells vs .state .h) (placingOf n1 ks cells vs .state .tries)
+  unfolding placingOf
+  placing-shifted e =
+      let s : length h ≡ 2 ^ n1 = length-replicate (2 ^ n1) 0 in
+      let t = placing.tries-are cs h g in
+      record {
+        order = placing.P cs h g .state .order;
+        falling = placing.falling cs h g;
+        once = placing.placed-once cs h g;
+        only-occupied = λ r m. (omega (arith, placing.placed-in cs h g r m), placing.placed-weighs cs h g r m);
+        all-occupied = λ r l w. placing.all-placed cs h g e r (omega arith) w;
+        smallest = placing.smallest cs h g;
+        bounded = rw (filled-blank cells) at (placing.bounded cs h g);
+        others-zero = λ r m. placing.others-zero cs h g (blank-zero (2 ^ n1)) r m;
+        tries-are = t .0;
+        tries-bounded = rw (filled-blank cells) at (t .1);
+      }
+
+  placing-low : Spread (length vs) (caresFrom 1 n1 ks vs) → (i : ℕ) → getD (placingOf n1 ks cells vs .state .h) i 0 ≤ length vs
+  unfolding placingOf
+  placing-low s = placing.none-exceeds cs h g (length vs) s (filled-blank cells) (blank-zero (2 ^ n1))
+
+  placing-fits : Spread (length vs) (caresFrom 1 n1 ks vs) → length vs + 2 ^ (length ks - n1) ≤ cells → placingOf n1 ks cells vs .end ≡ all
+  unfolding placingOf
+  placing-fits s l =
+      placing.always-fits cs h g (length vs) s (filled-blank cells) (2 ^ (length ks - n1))
+      (rw (length-replicate cells) l) (cares-columns n1 ks 1 vs)
+
+  placing-rows : length (placingOf n1 ks cells vs .state .h) ≡ 2 ^ n1
+  unfolding placingOf
+  placing-rows = lengths cs h g .0 ∙ length-replicate (2 ^ n1) 0
+
+  -- an accepted outcome leaves the displacements of the placing
+  displacements-are : (n : ℕ) (t : Tables) → displacements n1 (acceptedOutcome n n1 ks cells vs t) ≡ placingOf n1 ks cells vs .state .h
+  displacements-are n t = take-at (placingOf n1 ks cells vs .state .h) (drop (length (placingOf n1 ks cells vs .state .h)) (t .h)) (2 ^ n1) placing-rows
+
+  outcome-demand-3 : (r : Refusal) (n : ℕ) (t : Tables) → Demand3 r n1 ks cells vs (outcome r n n1 ks cells vs t)
+  unfolding unitOf
+  outcome-demand-3 r n t =
+      record {
+        shifted = λ z. let a = outcome-accepted n n1 ks cells vs t r z in rw (a .is, displacements-are n t) (placing-shifted (a .placed));
+        none-exceeds = λ z s. let a = outcome-accepted n n1 ks cells vs t r z in rw (a .is, displacements-are n t) (placing-low s);
+        always-fits = λ z s l. accepted-outcome n n1 ks cells vs t r z (placing-fits s l);
+      }
+
+-- the build that chooses its variables
+pub chosen-demand-3 : Demand3Chosen buildChosen
+unfolding buildChosen
+chosen-demand-3 n degree cells vs t =
+    outcome-demand-3 (rowsShare (length (chosenKinds n degree vs))) (chosenKinds n degree vs) cells vs (chosenRefusal n degree (chosenKinds n degree vs) cells vs t) n t
+
+-- the build whose variables the caller gives
+pub given-demand-3 : Demand3Given buildGiven
+unfolding buildGiven
+given-demand-3 n variables p n1 cells vs t =
+    outcome-demand-3 n1 (kindsOf (take p variables)) cells vs (givenRefusal n p n1 (kindsOf (take p variables)) cells vs t) n t
+
+-- ---- refuted of two wrong builds
+
+-- 16 alone, n = 6, degree 1, L = 2: the spread condition holds, and the cells number k plus the columns
+pub refuses-everything-fails : (build : ChosenBuild) → ((n degree cells : ℕ) (vs : List ℕ) (t : Tables) → build n degree cells vs t .built .refusal ≡ 0 → ⊥) → Demand3Chosen build → ⊥
+unfolding chosenRefusal choose spread caresFrom
+refuses-everything-fails build never d =
+    never 6 1 2 (16 ∷ []) (nines 1 2 2)
+    (d 6 1 2 (16 ∷ []) (nines 1 2 2) .always-fits refl (placing.spread-law 1 (caresFrom 1 0 [] (16 ∷ [])) .0 refl) (omega arith))
+
+-- 0, 1, 2, 3 with n = 3, rows x_1, x_2, column x_3, L = 6, as document 01 has it
+pub refuses-everything-given-fails : (build : GivenBuild)
+    → ((n : ℕ) (variables : List Variable) (p n1 cells : ℕ) (vs : List ℕ) (t : Tables) → build n variables p n1 cells vs t .built .refusal ≡ 0 → ⊥)
+    → Demand3Given build → ⊥
+unfolding givenRefusal spread caresFrom
+refuses-everything-given-fails build never d =
+    never 3 variables 3 2 6 vs (nines 4 6 5)
+    (d 3 variables 3 2 6 vs (nines 4 6 5) .always-fits refl (placing.spread-law 4 (caresFrom 1 2 (kindsOf variables) vs) .0 refl) (omega arith))
+  where
+    variables : List Variable
+    variables = map (λ k. record { kind = k; part = Row }) (One 1 ∷ One 2 ∷ One 3 ∷ [])
+
+    vs : List ℕ
+    vs = 0 ∷ 1 ∷ 2 ∷ 3 ∷ []
+
+-- the outcome with another tries figure
+abbrev pub withTries : ℕ → Outcome → Outcome
+withTries tries o =
+    record {
+      built = record {
+        refusal = o .built .refusal;
+        place = o .built .place;
+        unit = record {
+          n = o .built .unit .n;
+          p = o .built .unit .p;
+          n1 = o .built .unit .n1;
+          k = o .built .unit .k;
+          cells = o .built .unit .cells;
+          kept = o .built .unit .kept;
+          tries = tries;
+          excess = o .built .unit .excess;
+          variables = o .built .unit .variables;
+        };
+      };
+      tables = o .tables;
+    }
+
+-- our build with any other figures: those that demand 3 admits are ours
+pub tries-forced : (tries : ℕ → ℕ → ℕ → List ℕ → Tables → ℕ)
+    → Demand3Chosen (λ n degree cells vs t. withTries (tries n degree cells vs t) (buildChosen n degree cells vs t))
+    → (n degree cells : ℕ) (vs : List ℕ) (t : Tables) → buildChosen n degree cells vs t .built .refusal ≡ 0
+    → tries n degree cells vs t ≡ buildChosen n degree cells vs t .built .unit .tries
+tries-forced tries d n degree cells vs t a = tries-one _ _ _ _ _ _ (d n degree cells vs t .shifted a) (chosen-demand-3 n degree cells vs t .shifted a)
+
+-- so with one invented figure: 16 alone has 1 try, and S with degree 2 has 15
+pub invented-tries-fails : (tries : ℕ) → Demand3Chosen (λ n degree cells vs t. withTries tries (buildChosen n degree cells vs t)) → ⊥
+unfolding buildChosen
+invented-tries-fails tries d =
+    let a : tries ≡ 1 = tries-forced (λ n degree cells vs t. tries) d 6 1 1 (16 ∷ []) (nines 1 1 2) refl in
+    let b : tries ≡ 15 = tries-forced (λ n degree cells vs t. tries) d 6 2 7 S (nines 4 7 8) refl in
+    omega arith

@@ -1,0 +1,6 @@
+-- What the demands rest on.
+pub mod Chosen
+pub mod Passed
+pub mod Finish
+pub mod Cares
+pub mod Tries

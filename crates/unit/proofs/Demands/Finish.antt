@@ -1,0 +1,51 @@
+-- A build past refusals 1 to 12: it ends accepted or with refusal 13, and an outcome is accepted only through it. Assumes nothing.
+use Prim.Native.Nat.{ℕ, _<_}
+use native.Mathlib.Omega.{arith}
+use mathlib.Core.Path.{_≡_, refl, ap, _∙_}
+use mathlib.Core.List.{List}
+use mathlib.Core.Logic.{_⊎_, inl, inr}
+use native.Mathlib.Nat.{eq-zero-or-pos}
+use lib.ListN.{length}
+use Rattle.vectors.specs.declared.Kind.{Kind}
+use Rattle.rows.specs.Place.{End, all, noFit}
+use Rattle.unit.specs.Record.{unitOf}
+use Rattle.unit.specs.Refusals.{Refusal}
+use Rattle.unit.specs.Build.{Tables, Outcome, placingOf, accepted, refused, written, zeroed, finish, outcome}
+use Rattle.unit.proofs.Ladder.{outcome-refused, outcome-passed}
+
+module _ (n n1 : ℕ) (ks : List Kind) (cells : ℕ) (vs : List ℕ) (t : Tables) where
+  -- what an accepted build leaves
+  abbrev pub acceptedOutcome : Outcome
+  acceptedOutcome =
+      record {
+        built = accepted (unitOf n n1 (length vs) ks cells (placingOf n1 ks cells vs .state .tries));
+        tables = written n n1 ks vs (placingOf n1 ks cells vs) t;
+      }
+
+  pub finish-all : placingOf n1 ks cells vs .end ≡ all → finish n n1 ks cells vs t ≡ acceptedOutcome
+  unfolding finish
+  finish-all e = rw (e, finish)
+
+  pub finish-stuck : (row tried : ℕ) → placingOf n1 ks cells vs .end ≡ noFit row tried
+      → finish n n1 ks cells vs t ≡ refused (record { number = 13; place = row }) (zeroed n1 cells (length vs) t)
+  unfolding finish
+  finish-stuck row tried e = rw (e, finish)
+
+  -- accepted: past refusals 1 to 12, and all rows are placed
+  pub record Accepted (r : Refusal) : Type 0 where
+    pub passed : r .number ≡ 0
+    pub placed : placingOf n1 ks cells vs .end ≡ all
+    pub is : outcome r n n1 ks cells vs t ≡ acceptedOutcome
+
+  pub outcome-accepted : (r : Refusal) → outcome r n n1 ks cells vs t .built .refusal ≡ 0 → Accepted r
+  outcome-accepted r h = go (eq-zero-or-pos (r .number)) (placingOf n1 ks cells vs .end) refl
+    where
+      go : (r .number ≡ 0) ⊎ (0 < r .number) → (e : End) → placingOf n1 ks cells vs .end ≡ e → Accepted r
+      go (inr l) e q = absurd (omega (arith, ap (λ (o : Outcome). o .built .refusal) (outcome-refused r n n1 ks cells vs t (λ z. omega arith))))
+      go (inl z) all q = record { passed = z; placed = q; is = outcome-passed r n n1 ks cells vs t z ∙ finish-all q }
+      go (inl z) (noFit row tried) q =
+          absurd (omega (arith, ap (λ (o : Outcome). o .built .refusal) (outcome-passed r n n1 ks cells vs t z ∙ finish-stuck row tried q)))
+
+  -- all rows are placed: accepted
+  pub accepted-outcome : (r : Refusal) → r .number ≡ 0 → placingOf n1 ks cells vs .end ≡ all → outcome r n n1 ks cells vs t .built .refusal ≡ 0
+  accepted-outcome r z q = ap (λ (o : Outcome). o .built .refusal) (outcome-passed r n n1 ks cells vs t z ∙ finish-all q)

@@ -1,0 +1,158 @@
+-- The variables past refusals 1 to 12, of both builds. Assumes nothing.
+use Prim.Native.Nat.{ℕ, zero, suc, _+_, _-_, _^_, _≤_}
+use native.Mathlib.Omega.{arith}
+use mathlib.Core.Path.{_≡_, refl}
+use mathlib.Core.Bool.{true, false, _||_}
+use mathlib.Core.List.{List, [], _∷_, _++_, map}
+use lib.Count.{ones}
+use lib.Dec.{ltb}
+use lib.ListN.{length, take}
+use borrow.Author.Tests.{ltb-false, not-false, eqb-true}
+use Rattle.lists.specs.First.{repeated}
+use Rattle.lists.proofs.Tests.{or-false}
+use Rattle.lists.proofs.Members.{All}
+use Rattle.lists.proofs.NonePass.{none-all}
+use Rattle.vectors.specs.declared.Kind.{Kind}
+use Rattle.vectors.specs.declared.Variable.{Variable}
+use Rattle.vectors.specs.Variable.{faulty, numberOf, kindsOf}
+use Rattle.vectors.specs.Choice.{left, apart}
+use Rattle.vectors.specs.Span.{kept, firstDependent}
+use Rattle.vectors.proofs.Numbers.{kinds-length}
+use Rattle.vectors.proofs.Choice.Pairs.{pairs-repeated}
+use Rattle.vectors.proofs.Labels.Count.{kept-number}
+use Rattle.unit.specs.Bounds.{maxVariables, maxSide, tooMany}
+use Rattle.unit.specs.Record.{rowsShare}
+use Rattle.unit.specs.Refusals.{Refusal, orElse, ladder, listChecks, givenChecks, check2Chosen, check2Given, check8, check9, check10, check11, check12}
+use Rattle.unit.specs.Build.{Tables, chosenRefusal, givenRefusal}
+use Rattle.unit.specs.Demand3.{chosenKinds}
+use Rattle.unit.specs.Inner.Ready.{Split}
+use Rattle.unit.proofs.Ladder.{ladder-append, pass, if-passed, at-passed, ListPassed, list-passed}
+use Rattle.unit.proofs.Demands.Chosen.{choose-few, choose-right, choose-independent}
+
+-- past a ladder, past both of its parts
+pub pass-both : (ps qs : List Refusal) → ladder (ps ++ qs) .number ≡ 0 → (ladder ps .number ≡ 0) × (ladder qs .number ≡ 0)
+pass-both ps qs h = go (ladder ps .number) refl (rw (ladder-append ps qs) at h)
+  where
+    go : (m : ℕ) → ladder ps .number ≡ m → orElse m (ladder ps) (ladder qs) .number ≡ 0 → (ladder ps .number ≡ 0) × (ladder qs .number ≡ 0)
+    go zero e h = (e, h)
+    go (suc m) e h = absurd (omega arith)
+
+-- ---- the bounds of the variables
+
+pub sides : (p n1 : ℕ) → tooMany p n1 ≡ false → (p ≤ maxVariables) × (n1 ≤ p) × (n1 ≤ maxSide) × (p - n1 ≤ maxSide)
+sides p n1 h =
+    let a = or-false (ltb maxVariables p || ltb p n1 || ltb maxSide n1) (ltb maxSide (p - n1)) h in
+    let b = or-false (ltb maxVariables p || ltb p n1) (ltb maxSide n1) (a .0) in
+    let c = or-false (ltb maxVariables p) (ltb p n1) (b .0) in
+    (ltb-false maxVariables p (c .0), ltb-false p n1 (c .1), ltb-false maxSide n1 (b .1), ltb-false maxSide (p - n1) (a .1))
+
+-- "the first n1 = p - floor(p/2) are row variables": with at most 24 variables neither side is above 12
+pub share-sides : (p : ℕ) → p ≤ maxVariables → (rowsShare p ≤ p) × (rowsShare p ≤ maxSide) × (p - rowsShare p ≤ maxSide)
+share-sides p h = (omega arith, omega arith, omega arith)
+
+-- past refusal 12, of either build
+pub record Passed (n n1 : ℕ) (second : Refusal) (ks : List Kind) (cells : ℕ) (vs : List ℕ) (t : Tables) : Type 0 where
+  pub list : ListPassed n second cells vs (length (t .g)) (length (t .aux))
+  pub split : Split n n1 ks
+  -- no two vectors agree on every variable
+  pub apart : repeated (map (numberOf ks) vs) ≡ 0
+  pub rows-fit : 2 ^ n1 ≤ length (t .h)
+
+-- "Exactly n - p are kept."
+pub split-kept : (n n1 : ℕ) (ks : List Kind) → Split n n1 ks → ones (kept n ks) + length ks ≡ n
+split-kept n n1 ks s = kept-number n ks (s .right) (s .independent)
+
+-- ---- variables chosen by rule
+
+module _ (n degree : ℕ) (second : Refusal) (cells : ℕ) (vs : List ℕ) (g aux : ℕ) (h : ladder (listChecks n second cells vs g aux) .number ≡ 0) where
+  -- past checks 1 to 7 none of the chosen variables is faulty
+  pub chosen-right : All (λ k. faulty n k ≡ false) (chosenKinds n degree vs)
+  chosen-right = choose-right maxVariables n degree vs (list-passed n second cells vs g aux h .some-inputs)
+
+  -- .. and none an XOR of earlier ones
+  pub chosen-independent : firstDependent (chosenKinds n degree vs) ≡ 0
+  chosen-independent =
+      let l = list-passed n second cells vs g aux h in
+      choose-independent maxVariables n degree vs (l .some-inputs) (l .listed .within) (l .distinct)
+
+  -- they are at most 24, and neither side is above 12
+  pub chosen-split : Split n (rowsShare (length (chosenKinds n degree vs))) (chosenKinds n degree vs)
+  chosen-split =
+      let f : length (chosenKinds n degree vs) ≤ maxVariables = choose-few maxVariables n degree vs in
+      let s = share-sides (length (chosenKinds n degree vs)) f in
+      record { few = f; rows-in = s .0; rows-few = s .1; columns-few = s .2; right = chosen-right; independent = chosen-independent }
+
+apart-repeated : (vs : List ℕ) (ks : List Kind) → apart vs ks ≡ true → repeated (map (numberOf ks) vs) ≡ 0
+unfolding apart left
+apart-repeated vs ks e = pairs-repeated (map (numberOf ks) vs) (eqb-true (left vs ks) 0 e)
+
+module _ (n degree cells : ℕ) (vs : List ℕ) (t : Tables) (h : chosenRefusal n degree (chosenKinds n degree vs) cells vs t .number ≡ 0) where
+  pub chosen-passed : Passed n (rowsShare (length (chosenKinds n degree vs))) (check2Chosen degree) (chosenKinds n degree vs) cells vs t
+  unfolding chosenRefusal
+  chosen-passed =
+      let ks : List Kind = chosenKinds n degree vs in
+      let last : List Refusal = check12 (rowsShare (length ks)) (t .h) ∷ [] in
+      let a = pass-both (listChecks n (check2Chosen degree) cells vs (length (t .g)) (length (t .aux))) (check11 ks vs ∷ last) h in
+      let b = pass (check11 ks vs) last (a .1) in
+      let c = pass (check12 (rowsShare (length ks)) (t .h)) [] (b .1) in
+      record {
+        list = list-passed n (check2Chosen degree) cells vs (length (t .g)) (length (t .aux)) (a .0);
+        split = chosen-split n degree (check2Chosen degree) cells vs (length (t .g)) (length (t .aux)) (a .0);
+        apart = apart-repeated vs ks (not-false (apart vs ks) (if-passed 10 _ (b .0)));
+        rows-fit = ltb-false (length (t .h)) (2 ^ rowsShare (length ks)) (if-passed 11 _ (c .0));
+      }
+
+  -- exactly n - p inputs are kept
+  pub chosen-kept : ones (kept n (chosenKinds n degree vs)) + length (chosenKinds n degree vs) ≡ n
+  chosen-kept = split-kept n _ (chosenKinds n degree vs) (chosen-passed .split)
+
+-- ---- variables given by the caller, in 24 places
+
+module _ (n : ℕ) (variables : List Variable) (p n1 cells : ℕ) (vs : List ℕ) (g aux : ℕ) (places : length variables ≡ maxVariables)
+    (h : ladder (listChecks n (check2Given p n1) cells vs g aux) .number ≡ 0) (k : ladder (givenChecks n (kindsOf (take p variables)) vs) .number ≡ 0) where
+  -- past checks 1 to 10
+  pub given-split : Split n n1 (kindsOf (take p variables))
+  given-split =
+      let ks : List Kind = kindsOf (take p variables) in
+      let c = pass (check8 n ks) (check9 ks ∷ check10 ks vs ∷ []) k in
+      let d = pass (check9 ks) (check10 ks vs ∷ []) (c .1) in
+      let s = sides p n1 (if-passed 1 _ (list-passed n (check2Given p n1) cells vs g aux h .two)) in
+      let q : length ks ≡ p = kinds-length variables p (omega (arith, s .0)) in
+      record {
+        few = omega (arith, s .0);
+        rows-in = omega (arith, s .1);
+        rows-few = s .2;
+        columns-few = omega (arith, s .3);
+        right = none-all (faulty n) ks (at-passed 7 _ (c .0));
+        independent = at-passed 8 _ (d .0);
+      }
+
+  pub given-apart : repeated (map (numberOf (kindsOf (take p variables))) vs) ≡ 0
+  given-apart =
+      let ks : List Kind = kindsOf (take p variables) in
+      let c = pass (check8 n ks) (check9 ks ∷ check10 ks vs ∷ []) k in
+      let d = pass (check9 ks) (check10 ks vs ∷ []) (c .1) in
+      at-passed 9 _ (pass (check10 ks vs) [] (d .1) .0)
+
+module _ (n : ℕ) (variables : List Variable) (p n1 cells : ℕ) (vs : List ℕ) (t : Tables) (places : length variables ≡ maxVariables)
+    (h : givenRefusal n p n1 (kindsOf (take p variables)) cells vs t .number ≡ 0) where
+  pub given-passed : Passed n n1 (check2Given p n1) (kindsOf (take p variables)) cells vs t
+  unfolding givenRefusal
+  given-passed =
+      let ks : List Kind = kindsOf (take p variables) in
+      let a = pass-both (listChecks n (check2Given p n1) cells vs (length (t .g)) (length (t .aux))) (givenChecks n ks vs ++ (check12 n1 (t .h) ∷ [])) h in
+      let b = pass-both (givenChecks n ks vs) (check12 n1 (t .h) ∷ []) (a .1) in
+      let f = pass (check12 n1 (t .h)) [] (b .1) in
+      record {
+        list = list-passed n (check2Given p n1) cells vs (length (t .g)) (length (t .aux)) (a .0);
+        split = given-split n variables p n1 cells vs (length (t .g)) (length (t .aux)) places (a .0) (b .0);
+        apart = given-apart n variables p n1 cells vs (length (t .g)) (length (t .aux)) places (a .0) (b .0);
+        rows-fit = ltb-false (length (t .h)) (2 ^ n1) (if-passed 11 _ (f .0));
+      }
+
+  -- exactly n - p inputs are kept
+  pub given-kept : ones (kept n (kindsOf (take p variables))) + p ≡ n
+  given-kept =
+      let s : p ≤ maxVariables = sides p n1 (if-passed 1 _ (given-passed .list .two)) .0 in
+      let q : length (kindsOf (take p variables)) ≡ p = kinds-length variables p (omega arith) in
+      rw q at (split-kept n n1 (kindsOf (take p variables)) (given-passed .split))

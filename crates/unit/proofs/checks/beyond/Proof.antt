@@ -1,0 +1,29 @@
+-- `unit::checks::beyond` meets its contract. Assumes nothing.
+use borrow.Author.Needs.{needs}
+use borrow.Author.Tests.{lt-leb}
+use Prim.Native.Nat.{ℕ, _^_}
+use native.Mathlib.Nat.{one-mul}
+use native.Mathlib.Omega.{arith}
+use mathlib.Core.Path.{_≡_, sym, ap, _∙_}
+use lib.Dec.{leb}
+use lib.Pow.{shl-exact}
+use Rattle.unit.specs.Bounds.{maxInputs}
+use Rattle.unit.proofs.checks.beyond.Statement.{statement}
+use Rattle.unit.proofs.checks.beyond.Tie as tie
+
+shl-result : tie.Need-shl-result
+shl-result c = search needs
+
+returns : tie.Need-returns
+returns c =
+    let a = c .before .args in
+    ap (λ (d : ℕ). leb d (a .x)) (shl-exact {a = 1} 1 (a .n) maxInputs (omega arith) (omega arith) ∙ one-mul (2 ^ a .n))
+
+returns-2 : tie.Need-returns-2
+returns-2 c =
+    let a = c .before .args in
+    let e : a .n ≡ maxInputs = omega arith in
+    sym (ap (λ (d : ℕ). leb (2 ^ d) (a .x)) e ∙ lt-leb (2 ^ maxInputs) (a .x) (c .before .fits .x .fits))
+
+pub beyond-spec : {M : Type 1} → statement M
+beyond-spec = tie.close (tie.spec shl-result returns returns-2)

@@ -1,0 +1,44 @@
+-- `unit::choice::best_one` meets its contract. Assumes nothing.
+use borrow.Author.Needs.{needs}
+use Prim.Native.Nat.{ℕ, _+_, _-_, _≤_}
+use native.Mathlib.Omega.{arith}
+use mathlib.Core.Path.{_≡_, ap}
+use Rattle.vectors.specs.Choice.{fewest, ones}
+use Rattle.vectors.proofs.Choice.Loops.{ones-turn, ones-end}
+use Rattle.unit.specs.Inner.Choice.{scoreOf}
+use Rattle.unit.proofs.ChoiceBest.{Trying, trying-none, trying-more, trying-end}
+use Rattle.unit.proofs.choice.best_one.Statement.{statement}
+use Rattle.unit.proofs.choice.best_one.Tie as tie
+
+abbrev Inv-loop : tie.InvT-loop
+Inv-loop words sizes n b₀ i₀ b i = (i ≤ n + 2) × Trying (scoreOf sizes words) (fewest (scoreOf sizes words) (b₀ .kind) (ones (n - 1) 2)) b (ones (n + 1 - i) i)
+
+abbrev μ-loop : tie.MeasureT-loop
+μ-loop words sizes n b₀ i₀ b i = n + 1 - i
+
+loop-holds : tie.Need-loop-holds Inv-loop μ-loop
+loop-holds c =
+    let e : c .before .before .args .n + 1 - 2 ≡ c .before .before .args .n - 1 = omega arith in
+    (omega arith, trying-none _ _ _ _ (ap (λ (d : ℕ). ones d 2) e) (c .before .before .pre .2))
+
+better-requires : tie.Need-better-requires Inv-loop μ-loop
+better-requires c κs = (c .before .before .before .before .pre .1, c .before .loop .inv .1 .own)
+
+add-i : tie.Need-add-i Inv-loop μ-loop
+add-i c = search needs
+
+loop-less : tie.Need-loop-less Inv-loop μ-loop
+loop-less c = search needs
+
+loop-again : tie.Need-loop-again Inv-loop μ-loop
+loop-again c =
+    let l = c .before .before .loop in
+    (omega arith, trying-more _ _ _ _ _ _ _ (ones-turn _ (l .i) (c .before .loop-test .taken)) (c .better .ensures) (l .inv .1))
+
+returns : tie.Need-returns Inv-loop μ-loop
+returns c = trying-end _ _ _ _ (ones-end _ _ (c .loop-test .left)) (c .before .loop .inv .1)
+
+pub best-one-spec : {M : Type 1} → statement M
+best-one-spec =
+    tie.close
+    (tie.spec Inv-loop μ-loop loop-holds better-requires add-i loop-less loop-again returns)

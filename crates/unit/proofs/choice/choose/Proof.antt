@@ -1,0 +1,134 @@
+-- `unit::choice::choose` meets its contract. Assumes nothing.
+use borrow.Author.Needs.{needs}
+use Prim.Native.Nat.{_-_, _≤_}
+use native.Mathlib.Omega.{arith}
+use mathlib.Core.Path.{_≡_, refl, sym, _∙_}
+use lib.ListN.{length}
+use lib.Seq.{length-take-le}
+use Rattle.vectors.specs.Choice.{candidates}
+use Rattle.vectors.specs.declared.Part.the-variants.{Row}
+use Rattle.unit.specs.Bounds.{maxVariables, maxVectors}
+use Rattle.unit.proofs.ChoiceStage.{Stage, stage-none, stage-more, stage-stop, stage-end}
+use Rattle.unit.proofs.choice.choose.Statement.{statement}
+use Rattle.unit.proofs.choice.choose.Tie as tie
+
+abbrev Inv-loop : tie.InvT-loop
+Inv-loop vectors n degree words₀ variables₀ groups₀ p₀ words variables groups p = (length words ≡ 1024) × Stage vectors (candidates n degree) groups variables p
+
+abbrev μ-loop : tie.MeasureT-loop
+μ-loop vectors n degree words₀ variables₀ groups₀ p₀ words variables groups p = maxVariables - p
+
+low : (l : tie.At-loop Inv-loop μ-loop) → l .loop .groups .members ≤ maxVectors
+low l =
+    let s = l .loop .inv .1 .shape in
+    omega (arith, length-take-le _ (l .loop .groups .order) (s .room), s .cuts .few, l .before .before .before .pre .2)
+
+room : (c : tie.After-gather Inv-loop μ-loop) → c .before .before .before .before .before .before .before .before .loop .groups .members ≤ length (c .gather .last .1 .1 .0)
+room c =
+    omega (arith, c .gather .kept .1 .1 .0, low (c .before .before .before .before .before .before .before .before), c .before .before .before .before .before .before .before .before .loop .inv .0)
+
+all-requires : tie.Need-all-requires Inv-loop μ-loop
+all-requires c κs = c .before .pre .2
+
+loop-holds : tie.Need-loop-holds Inv-loop μ-loop
+loop-holds c = (refl, stage-none _ _ _ _ refl (c .all .ensures))
+
+returns : tie.Need-returns Inv-loop μ-loop
+returns c = stage-stop (c .before .before .before .loop .inv .1) (c .if1 .taken)
+
+array-share-prefix-order : tie.Need-array-share-prefix-order Inv-loop μ-loop
+array-share-prefix-order c = search needs
+
+slice-aggregate-gather : tie.Need-slice-aggregate-gather Inv-loop μ-loop
+slice-aggregate-gather c = sym (length-take-le _ _ (c .before .before .before .before .before .before .loop .inv .1 .shape .room))
+
+slice-aggregate-gather-2 : tie.Need-slice-aggregate-gather-2 Inv-loop μ-loop
+slice-aggregate-gather-2 c = search needs
+
+gather-requires : tie.Need-gather-requires Inv-loop μ-loop
+gather-requires c κs =
+    let l = c .before .before .before .before .before .before .before in
+    (l .loop .inv .1 .shape .cuts .low, omega (arith, low l, l .loop .inv .0, length-take-le _ (l .loop .groups .order) (l .loop .inv .1 .shape .room)))
+
+array-share-prefix-words : tie.Need-array-share-prefix-words Inv-loop μ-loop
+array-share-prefix-words c = room (c .before)
+
+slice-aggregate-best-of : tie.Need-slice-aggregate-best-of Inv-loop μ-loop
+slice-aggregate-best-of c = sym (length-take-le _ _ (room (c .before .before)))
+
+array-share-prefix-sizes : tie.Need-array-share-prefix-sizes Inv-loop μ-loop
+array-share-prefix-sizes c = search needs
+
+slice-aggregate-best-of-2 : tie.Need-slice-aggregate-best-of-2 Inv-loop μ-loop
+slice-aggregate-best-of-2 c =
+    sym (length-take-le _ _ (c .before .before .before .before .before .before .before .before .before .before .before .loop .inv .1 .shape .places))
+
+best-of-requires : tie.Need-best-of-requires Inv-loop μ-loop
+best-of-requires c κs =
+    let l = c .before .before .before .before .before .before .before .before .before .before .before in
+    let s = l .loop .inv .1 .shape in
+    let p = l .before .before .before .pre in
+    let e = length-take-le (l .loop .groups .members) (c .before .before .before .gather .last .1 .1 .0) (room (c .before .before .before)) in
+    (p .0, p .1, record { sum = s .cuts .sum ∙ length-take-le _ (l .loop .groups .order) (s .room) ∙ sym e; few = omega (arith, low l, e) })
+
+mask-requires : tie.Need-mask-requires Inv-loop μ-loop
+mask-requires c κs = tt
+
+refined-requires : tie.Need-refined-requires Inv-loop μ-loop
+refined-requires c κs =
+    let l = c .before .before .before .before .before .before .before .before .before .before .before .before .before in
+    (l .before .before .before .pre .2, l .loop .inv .1 .shape)
+
+mul-variables : tie.Need-mul-variables Inv-loop μ-loop
+mul-variables c = search needs
+
+array-set-from-variables : tie.Need-array-set-from-variables Inv-loop μ-loop
+array-set-from-variables c = search needs
+
+add-p : tie.Need-add-p Inv-loop μ-loop
+add-p c = search needs
+
+loop-less : tie.Need-loop-less Inv-loop μ-loop
+loop-less c = search needs
+
+loop-again : tie.Need-loop-again Inv-loop μ-loop
+loop-again c =
+    let t = c .before .before .before .before .before .before .before .before .before .before .before .before .before in
+    let l = t .before in
+    let k = c .before .before .before .before .before .before .gather in
+    let b = c .before .before .best-of in
+    let o = length-take-le _ (l .loop .groups .order) (l .loop .inv .1 .shape .room) in (
+      k .kept .1 .1 .0 ∙ l .loop .inv .0,
+      stage-more (l .loop .inv .1) (λ u. record { kind = u; part = Row }) _ (b .result) _ _ (t .loop-test .taken) (c .before .before .before .before .before .before .before .before .before .before .before .if1 .left)
+          (λ i. omega (arith, l .before .before .shared-slice-known .given i)) refl (rw o at (k .ensures)) (b .ensures) (c .before .mask .ensures) (c .refined .ensures),
+    )
+
+returns-2 : tie.Need-returns-2 Inv-loop μ-loop
+returns-2 c = stage-end (c .before .before .loop .inv .1) (c .before .loop-test .left)
+
+pub choose-spec : {M : Type 1} → statement M
+choose-spec =
+    tie.close
+    (tie.spec
+    Inv-loop
+    μ-loop
+    all-requires
+    loop-holds
+    returns
+    array-share-prefix-order
+    slice-aggregate-gather
+    slice-aggregate-gather-2
+    gather-requires
+    array-share-prefix-words
+    slice-aggregate-best-of
+    array-share-prefix-sizes
+    slice-aggregate-best-of-2
+    best-of-requires
+    mask-requires
+    refined-requires
+    mul-variables
+    array-set-from-variables
+    add-p
+    loop-less
+    loop-again
+    returns-2)

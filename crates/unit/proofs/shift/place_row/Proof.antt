@@ -1,0 +1,73 @@
+-- `unit::shift::place_row` meets its contract. Assumes nothing.
+use borrow.Author.Needs.{needs}
+use native.Mathlib.Omega.{arith}
+use mathlib.Core.Path.{sym, ap, _∙_}
+use Rattle.rows.proofs.Fits.{fit-inside, fit-low}
+use Rattle.unit.specs.Inner.Chains.{fitOf}
+use Rattle.unit.proofs.Shifts.Walks.{chain-pos}
+use Rattle.unit.proofs.Shifts.Placing.{placed-at, placed-none}
+use Rattle.unit.proofs.shift.place_row.Statement.{statement}
+use Rattle.unit.proofs.shift.place_row.Tie as tie
+
+first-fit-requires : tie.Need-first-fit-requires
+first-fit-requires c κs = search needs
+
+enum-known-fit : tie.Need-enum-known-fit
+enum-known-fit c = search needs
+
+put-row-requires : tie.Need-put-row-requires
+put-row-requires c κs =
+    let s = c .before .before .before .before .before .before .before .before .before in
+    let e = sym (c .before .before .before .before .first-fit .ensures) ∙ ap fitOf (c .before .before .fit .given .1) in
+    (s .pre .0, (s .pre .1 .0, s .pre .1 .2, fit-inside _ _ _ e))
+
+cast-h : tie.Need-cast-h
+cast-h c =
+    let s = c .before .before .before .before .before .before .before .before .before .before .before .before in
+    let e = sym (c .before .before .before .before .before .before .before .first-fit .ensures) ∙ ap fitOf (c .before .before .before .before .before .fit .given .1) in
+    omega (arith, fit-low _ _ _ (chain-pos _ (s .pre .0) _ (s .pre .1 .0) (s .pre .1 .1)) e, s .pre .1)
+
+mul-h : tie.Need-mul-h
+mul-h c = search needs
+
+slice-write-h : tie.Need-slice-write-h
+slice-write-h c = search needs
+
+enum-known-fit-2 : tie.Need-enum-known-fit-2
+enum-known-fit-2 c = search needs
+
+same-length : tie.Need-same-length
+same-length c = search needs
+
+same-length-2 : tie.Need-same-length-2
+same-length-2 c = search needs
+
+returns : tie.Need-returns
+returns c =
+    let e = sym (c .before .before .before .before .before .before .before .first-fit .ensures) ∙ ap fitOf (c .before .before .before .before .before .fit .given .1) in
+    placed-at _ _ _ _ _ e (c .before .before .put-row .ensures)
+
+same-length-3 : tie.Need-same-length-3
+same-length-3 c = search needs
+
+returns-2 : tie.Need-returns-2
+returns-2 c =
+    let e = sym (c .before .before .before .first-fit .ensures) ∙ ap fitOf (c .before .fit2 .given .1) in
+    placed-none _ _ _ _ _ _ _ e
+
+pub place-row-spec : {M : Type 1} → statement M
+place-row-spec =
+    tie.close
+    (tie.spec
+    first-fit-requires
+    enum-known-fit
+    put-row-requires
+    cast-h
+    mul-h
+    slice-write-h
+    enum-known-fit-2
+    same-length
+    same-length-2
+    returns
+    same-length-3
+    returns-2)

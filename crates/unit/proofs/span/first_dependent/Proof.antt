@@ -1,0 +1,130 @@
+-- `unit::span::first_dependent` meets its contract. Assumes nothing.
+use mathlib.Core.Path.{_≡_, sym, ap, _∙_}
+use mathlib.Core.List.{List}
+use Prim.Native.Nat.{_+_, _-_, _≤_}
+use native.Mathlib.Omega.{arith}
+use borrow.Author.Needs.{needs}
+use lib.ListN.{length, take}
+use Rattle.vectors.specs.declared.Kind.{Kind}
+use Rattle.vectors.specs.declared.Kind.the-variants.{One}
+use Rattle.vectors.specs.Variable.{kindsOf}
+use Rattle.vectors.proofs.Numbers.{kinds-length}
+use Rattle.vectors.proofs.Labels.Edges.{nodesFrom, length-nodes}
+use Rattle.vectors.proofs.Labels.Nodes.{times-one}
+use Rattle.vectors.proofs.Labels.Depend.{Going, going-start, going-found, going-on, going-end}
+use Rattle.unit.specs.Bounds.{maxInputs, maxVariables}
+use Rattle.unit.proofs.Ends.{kindAt, Ends, ends-at}
+use Rattle.unit.proofs.span.first_dependent.Statement.{statement}
+use Rattle.unit.proofs.span.first_dependent.Tie as tie
+
+abbrev Inv-loop : tie.InvT-loop
+Inv-loop p variables labels₀ i₀ labels i =
+    (i ≤ p) × (length variables ≡ maxVariables) × (length labels ≡ maxInputs + 1) × Going (kindsOf (take p variables)) labels i
+
+abbrev μ-loop : tie.MeasureT-loop
+μ-loop p variables labels₀ i₀ labels i = p - i
+
+abbrev ks : tie.Start Inv-loop μ-loop → List Kind
+ks c = kindsOf (take (c .args .p) (c .args .t1))
+
+many : (s : tie.At-loop Inv-loop μ-loop) → length (ks (s .before .before)) ≡ s .before .before .args .p
+many s = kinds-length (s .before .before .args .t1) (s .before .before .args .p) (omega arith)
+
+ends : (c : tie.After-other-end Inv-loop μ-loop)
+    → let s = c .before .before .before .before in
+    Ends (kindAt (s .before .before .args .t1) (s .before .before .args .p) (s .loop .i)) (c .before .one-end .result) (c .other-end .result)
+ends c =
+    let s : tie.At-loop Inv-loop μ-loop = c .before .before .before .before in
+    let a : tie.Start Inv-loop μ-loop = s .before .before in
+    ends-at (a .args .t1) (a .args .p) (s .loop .i) _ _ _ (a .pre .1) (omega arith) (omega arith) (c .before .one-end .ensures) (c .other-end .ensures)
+
+multiples-requires : tie.Need-multiples-requires Inv-loop μ-loop
+multiples-requires c κs = omega arith
+
+loop-holds : tie.Need-loop-holds Inv-loop μ-loop
+loop-holds c =
+    let e : c .multiples .result ≡ nodesFrom (maxInputs + 1) 0 = c .multiples .ensures ∙ times-one (nodesFrom (maxInputs + 1) 0) in (
+      omega arith,
+      c .before .good .0 .1 .0 .1,
+      ap length e ∙ length-nodes (maxInputs + 1) 0,
+      rw e (going-start (ks (c .before)) (maxInputs + 1)),
+    )
+
+mul-v : tie.Need-mul-v Inv-loop μ-loop
+mul-v c = search needs
+
+array-copy-out-v : tie.Need-array-copy-out-v Inv-loop μ-loop
+array-copy-out-v c = search needs
+
+one-end-requires : tie.Need-one-end-requires Inv-loop μ-loop
+one-end-requires c κs = tt
+
+other-end-requires : tie.Need-other-end-requires Inv-loop μ-loop
+other-end-requires c κs = tt
+
+array-read-if1 : tie.Need-array-read-if1 Inv-loop μ-loop
+array-read-if1 c = omega (arith, ends c)
+
+array-read-if1-2 : tie.Need-array-read-if1-2 Inv-loop μ-loop
+array-read-if1-2 c = omega (arith, ends c)
+
+add-result : tie.Need-add-result Inv-loop μ-loop
+add-result c = omega arith
+
+returns : tie.Need-returns Inv-loop μ-loop
+returns c =
+    let s : tie.At-loop Inv-loop μ-loop = c .before .before .before .before .before in
+    sym (going-found maxInputs (ks (s .before .before)) (s .loop .labels) (s .loop .i) (One 0) (s .before .before .pre .1)
+    (omega arith) (omega (arith, many s)) (s .loop .inv .3)
+    (rw (ends (c .before) .one, ends (c .before) .other) at (c .if1 .taken)))
+
+slice-aggregate-merge : tie.Need-slice-aggregate-merge Inv-loop μ-loop
+slice-aggregate-merge c = search needs
+
+merge-requires : tie.Need-merge-requires Inv-loop μ-loop
+merge-requires c κs = omega (arith, ends (c .before .before))
+
+add-i : tie.Need-add-i Inv-loop μ-loop
+add-i c = omega arith
+
+loop-less : tie.Need-loop-less Inv-loop μ-loop
+loop-less c = omega arith
+
+loop-again : tie.Need-loop-again Inv-loop μ-loop
+loop-again c =
+    let e : tie.After-other-end Inv-loop μ-loop = c .before .before .before .before in
+    let s : tie.At-loop Inv-loop μ-loop = e .before .before .before .before in (
+      omega arith,
+      s .loop .inv .1,
+      c .before .merge .kept .0 ∙ s .loop .inv .2,
+      going-on maxInputs (ks (s .before .before)) (s .loop .labels) (s .loop .i) (One 0) (s .before .before .pre .1)
+          (omega arith) (omega (arith, many s)) (s .loop .inv .3) _
+          (rw (ends e .one, ends e .other) at (c .before .before .before .if1 .left))
+          (rw (ends e .one, ends e .other) at (c .before .merge .ensures)),
+    )
+
+returns-2 : tie.Need-returns-2 Inv-loop μ-loop
+returns-2 c = sym (going-end _ _ _ (c .before .loop .inv .3) (many (c .before) ∙ omega arith))
+
+pub first-dependent-spec : {M : Type 1} → statement M
+first-dependent-spec =
+    tie.close
+    (tie.spec
+    Inv-loop
+    μ-loop
+    multiples-requires
+    loop-holds
+    mul-v
+    array-copy-out-v
+    one-end-requires
+    other-end-requires
+    array-read-if1
+    array-read-if1-2
+    add-result
+    returns
+    slice-aggregate-merge
+    merge-requires
+    add-i
+    loop-less
+    loop-again
+    returns-2)

@@ -1,0 +1,70 @@
+// Variables as masks of a word, their values, and the number that masks make of a word.
+ghost use mathlib.Core.Path.{_≡_};
+ghost use Prim.Native.Nat.{_*_, _%_, _^_, _≤_};
+ghost use lib.ListN.{length, take};
+ghost use Rattle.vectors.specs.Bits.{placeOf};
+ghost use Rattle.vectors.specs.Variable.{maskOf, kindsOf};
+ghost use Rattle.unit.specs.Bounds.{maxInputs, maxVariables};
+ghost use Rattle.unit.specs.Inner.Masks.{masksOf, valueBy, numberBy};
+use vectors::Kind;
+use vectors::Variable;
+
+// The word with input i alone; no bit where a word has no such input.
+fn place(i: u8) -> u64
+    ensures { λ r. ⌜ r ≡ placeOf i % 2 ^ maxInputs ⌝ }
+{
+    if i == 0 {
+        return 0;
+    }
+    if 64 < i {
+        return 0;
+    }
+    1u64 << (i - 1)
+}
+
+// The inputs of a variable.
+pub(crate) fn mask(kind: Kind) -> u64
+    ensures { λ r. ⌜ r ≡ maskOf kind % 2 ^ maxInputs ⌝ }
+{
+    match kind {
+        Kind::One(i) => place(i),
+        Kind::Two(i, j) => place(i) ^ place(j),
+    }
+}
+
+// The masks of the first p variables, and 0 after them.
+pub(crate) fn masks(variables: [Variable; 24], p: usize) -> [u64; 24]
+    requires { ⌜ p ≤ maxVariables ⌝ }
+    ensures { λ r. ⌜ take p r ≡ masksOf (kindsOf (take p variables)) ⌝ }
+{
+    let mut m = [0u64; 24];
+    let mut i = 0;
+    while i < p {
+        let v = variables[i];
+        let kind = v.kind;
+        m[i] = mask(kind);
+        i += 1;
+    }
+    m
+}
+
+// 1 where x has an odd number of the mask's inputs.
+pub(crate) fn value(mask: u64, x: u64) -> u64
+    ensures { λ r. ⌜ r ≡ valueBy mask x ⌝ }
+{
+    (u64::count_ones(x & mask) % 2) as u64
+}
+
+// The values under the masks as a number, the first as lowest bit.
+pub(crate) fn number(masks: &[u64], x: u64) -> u64
+    requires { ⌜ length (now masks) ≤ maxVariables ⌝ }
+    ensures { λ r. ⌜ r ≡ numberBy (now (masks .entry)) x ⌝ }
+{
+    let mut r: u64 = 0;
+    let mut i = masks.len();
+    while 0 < i {
+        i -= 1;
+        r = r * 2 + value(masks[i], x);
+    }
+    r
+}

@@ -1,0 +1,51 @@
+// The comparison word.
+ghost use mathlib.Core.Path.{_≡_};
+ghost use Prim.Native.Nat.{_+_, _%_, _^_, _≤_, _<_};
+ghost use lib.Count.{ones};
+ghost use lib.ListN.{length};
+ghost use Rattle.vectors.specs.Word.{packIn};
+ghost use Rattle.unit.specs.Bounds.{maxInputs, maxVariables};
+ghost use Rattle.unit.specs.Inner.Masks.{wordBy};
+use crate::variables;
+
+// The n low bits of y.
+fn low(y: u64, n: u64) -> u64
+    requires { ⌜ n < maxInputs ⌝ }
+    ensures { λ r. ⌜ r ≡ y % 2 ^ n ⌝ }
+{
+    y % (1u64 << n)
+}
+
+// The bits of x at the set positions of the mask, the lowest first, a run of positions at a time.
+pub(crate) fn pack(mask: u64, x: u64) -> u64
+    ensures { λ r. ⌜ r ≡ packIn maxInputs mask x ⌝ }
+{
+    let mut w: u64 = 0;
+    let mut k: u64 = 0;
+    let mut m = mask;
+    let mut y = x;
+    while m != 0 {
+        let z = u64::trailing_zeros(m) as u64;
+        m = m >> z;
+        y = y >> z;
+        let n = u64::trailing_zeros(!m) as u64;
+        if n == 64 {
+            return w + (y << k);
+        }
+        w = w + (low(y, n) << k);
+        m = m >> n;
+        y = y >> n;
+        k = k + n;
+    }
+    w
+}
+
+// The row number of x, and above it the kept inputs.
+pub(crate) fn word(rows: &[u64], kept: u64, x: u64) -> u64
+    requires { ⌜ (length (now rows) ≤ maxVariables) × (length (now rows) + ones kept ≤ maxInputs) ⌝ }
+    ensures { λ r. ⌜ r ≡ wordBy (now (rows .entry)) kept x ⌝ }
+{
+    let row = variables::number(rows, x);
+    let rest = pack(kept, x);
+    row + (rest << rows.len())
+}
