@@ -7,3 +7,4 @@ pub mod Firsts
 pub mod Repeats
 pub mod NonePass
 pub mod InPlace
+pub mod Equals

@@ -2,7 +2,7 @@
 use Prim.Native.Nat.{ℕ, suc, _≤_, _<_}
 use native.Mathlib.Omega.{arith}
 use mathlib.Core.Path.{_≡_, refl, sym}
-use mathlib.Core.Bool.{Bool, true, false, _&&_, _||_, true≢false, false≢true}
+use mathlib.Core.Bool.{Bool, true, false, not, _&&_, _||_, true≢false, false≢true}
 use mathlib.Core.Logic.{_⊎_, inl, inr}
 use lib.Dec.{eqb, leb, ltb}
 use borrow.Author.Tests.{eqb-true, eqb-false, eq-eqb, ne-eqb, leb-true, leb-false, lt-ltb, le-ltb}
@@ -59,3 +59,10 @@ leb-ltb a b = go (leb a b) refl
     go : (t : Bool) → leb a b ≡ t → t ≡ ltb a (suc b)
     go true e = sym (lt-ltb a (suc b) (omega (arith, leb-true a b e)))
     go false e = sym (le-ltb a (suc b) (omega (arith, leb-false a b e)))
+
+pub not-leb : (a b : ℕ) → not (leb a b) ≡ ltb b a
+not-leb a b = go (leb a b) refl
+  where
+    go : (t : Bool) → leb a b ≡ t → not t ≡ ltb b a
+    go true e = sym (le-ltb b a (leb-true a b e))
+    go false e = sym (lt-ltb b a (leb-false a b e))

@@ -1,7 +1,7 @@
 -- Demand 3, of both builds; and refuted of a build that refuses everything and of one with an invented tries figure. Assumes nothing.
 use Prim.Native.Nat.{ℕ, _+_, _-_, _^_, _≤_}
 use native.Mathlib.Omega.{arith}
-use mathlib.Core.Path.{_≡_, refl, _∙_}
+use mathlib.Core.Path.{_≡_, refl}
 use mathlib.Core.List.{List, [], _∷_, map}
 use lib.ListN.{length, getD, take, drop, replicate, length-replicate}
 use lib.Seq.{take-at}
@@ -16,13 +16,13 @@ use Rattle.rows.specs.Place.{all}
 use Rattle.rows.specs.Demand.{Spread, spread}
 use Rattle.rows.proofs.Filled.{filled-blank, blank-zero}
 use Rattle.rows.proofs.Demand3 as placing
-use Rattle.rows.proofs.Held.{lengths}
 use Rattle.unit.specs.Record.{rowsShare, unitOf}
 use Rattle.unit.specs.Refusals.{Refusal}
 use Rattle.unit.specs.Build.{Tables, Outcome, caresFrom, placingOf, outcome, chosenRefusal, buildChosen, givenRefusal, buildGiven}
-use Rattle.unit.specs.Demand3.{Shifted, displacements, Demand3, ChosenBuild, GivenBuild, chosenKinds, Demand3Chosen, Demand3Given}
+use Rattle.unit.specs.Demand2.{ChosenBuild, GivenBuild}
+use Rattle.unit.specs.Demand3.{Shifted, displacements, Demand3, chosenKinds, Demand3Chosen, Demand3Given}
 use Rattle.unit.specs.Samples.{S, nines}
-use Rattle.unit.proofs.Demands.Finish.{acceptedOutcome, outcome-accepted, accepted-outcome}
+use Rattle.unit.proofs.Demands.Finish.{acceptedOutcome, outcome-accepted, accepted-outcome, placing-rows}
 use Rattle.unit.proofs.Demands.Cares.{cares-columns}
 use Rattle.unit.proofs.Demands.Tries.{tries-one}
 
@@ -65,13 +65,9 @@ module _ (n1 : ℕ) (ks : List Kind) (cells : ℕ) (vs : List ℕ) where
       placing.always-fits cs h g (length vs) s (filled-blank cells) (2 ^ (length ks - n1))
       (rw (length-replicate cells) l) (cares-columns n1 ks 1 vs)
 
-  placing-rows : length (placingOf n1 ks cells vs .state .h) ≡ 2 ^ n1
-  unfolding placingOf
-  placing-rows = lengths cs h g .0 ∙ length-replicate (2 ^ n1) 0
-
   -- an accepted outcome leaves the displacements of the placing
   displacements-are : (n : ℕ) (t : Tables) → displacements n1 (acceptedOutcome n n1 ks cells vs t) ≡ placingOf n1 ks cells vs .state .h
-  displacements-are n t = take-at (placingOf n1 ks cells vs .state .h) (drop (length (placingOf n1 ks cells vs .state .h)) (t .h)) (2 ^ n1) placing-rows
+  displacements-are n t = take-at (placingOf n1 ks cells vs .state .h) (drop (length (placingOf n1 ks cells vs .state .h)) (t .h)) (2 ^ n1) (placing-rows n1 ks cells vs)
 
   outcome-demand-3 : (r : Refusal) (n : ℕ) (t : Tables) → Demand3 r n1 ks cells vs (outcome r n n1 ks cells vs t)
   unfolding unitOf

@@ -4,3 +4,6 @@ pub mod Passed
 pub mod Finish
 pub mod Cares
 pub mod Tries
+pub mod Sound
+pub mod Exact
+pub mod Built

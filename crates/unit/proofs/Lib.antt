@@ -1,5 +1,6 @@
 pub mod Masks
 pub mod Filling
+pub mod WellFormed
 pub mod Marks
 pub mod Excess
 pub mod Written
@@ -15,6 +16,10 @@ pub mod GroupsMasks
 pub mod ChoiceSquares
 pub mod ChoiceBest
 pub mod ChoiceStage
+pub mod Values
+pub mod Lookups
+pub mod Recovery
 pub mod Demands
 pub mod Builds
+pub mod Demand2
 pub mod Demand3

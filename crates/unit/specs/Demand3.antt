@@ -15,6 +15,7 @@ use Rattle.unit.specs.Bounds.{maxVariables}
 use Rattle.unit.specs.Record.{rowsShare}
 use Rattle.unit.specs.Refusals.{Refusal}
 use Rattle.unit.specs.Build.{Tables, Outcome, caresFrom, chosenRefusal, givenRefusal}
+use Rattle.unit.specs.Demand2.{ChosenBuild, GivenBuild}
 
 -- the displacements h of the rows below `rows`, and the tries, with the vectors cs and the cells empty at the start
 pub record Shifted (cs : List Care) (rows cells : ℕ) (h : List ℕ) (tries : ℕ) : Type 0 where
@@ -48,14 +49,6 @@ pub record Demand3 (r : Refusal) (n1 : ℕ) (ks : List Kind) (cells : ℕ) (vs :
   pub always-fits : r .number ≡ 0 → Spread (length vs) (caresFrom 1 n1 ks vs) → length vs + 2 ^ (length ks - n1) ≤ cells → o .built .refusal ≡ 0
 
 -- ---- over any build
-
--- with variables chosen by rule: n, degree, L, the list and the tables
-abbrev pub ChosenBuild : Type 0
-ChosenBuild = ℕ → ℕ → ℕ → List ℕ → Tables → Outcome
-
--- with variables given by the caller: n, the variables, p, n1, L, the list and the tables
-abbrev pub GivenBuild : Type 0
-GivenBuild = ℕ → List Variable → ℕ → ℕ → ℕ → List ℕ → Tables → Outcome
 
 abbrev pub chosenKinds : ℕ → ℕ → List ℕ → List Kind
 chosenKinds n degree vs = choose maxVariables n degree vs

@@ -4,3 +4,4 @@ pub mod Chains
 pub mod Ready
 pub mod Groups
 pub mod Choice
+pub mod Formed

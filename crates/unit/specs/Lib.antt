@@ -4,6 +4,7 @@ pub mod Refusals
 pub mod Build
 pub mod Lookup
 pub mod Recover
+pub mod Demand2
 pub mod Demand3
 pub mod Inner
 pub mod Samples

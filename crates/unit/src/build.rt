@@ -131,10 +131,8 @@ fn marked(variables: [Variable; 24], p: usize, n1: usize) -> [Variable; 24]
     while i < p {
         let v = variables[i];
         let kind = v.kind;
-        m[i] = Variable {
-            kind,
-            part: part_at(i, n1),
-        };
+        let part = part_at(i, n1);
+        m[i] = Variable { kind, part };
         i += 1;
     }
     m

@@ -1,13 +1,18 @@
 // The index generation unit: its record, its answers and its entries.
 ghost use mathlib.Core.Path.{_≡_};
 ghost use Rattle.unit.specs.Build.{lent, after, buildChosen, buildGiven};
+ghost use Rattle.unit.specs.Lookup.{lookupOf};
+ghost use Rattle.unit.specs.Recover.{recoverOf};
 use vectors::Variable;
 
 mod build;
 mod checks;
 mod choice;
+mod find;
 mod fix;
+mod formed;
 mod groups;
+mod retrieve;
 mod shift;
 mod span;
 mod variables;
@@ -97,4 +102,30 @@ pub fn build_given(
         return build::refused(given.number, given.place);
     }
     build::complete(n, variables, p, n1, cells, vectors, h, g, aux)
+}
+
+// The number of the registered vector x, or 0.
+pub fn lookup(unit: Unit, h: &[u16], g: &[u16], aux: &[u64], x: u64) -> Found
+    ensures { λ r. ⌜ r ≡ lookupOf unit (lent (now (h .entry)) (now (g .entry)) (now (aux .entry))) x ⌝ }
+{
+    if !formed::well_formed(unit, h, g, aux) {
+        return find::not_found(14);
+    }
+    if checks::beyond(unit.n, x) {
+        return find::not_found(6);
+    }
+    find::answer(unit, h, g, aux, x)
+}
+
+// The registered vector with the number i.
+pub fn recover(unit: Unit, h: &[u16], g: &[u16], aux: &[u64], i: usize) -> Recovered
+    ensures { λ r. ⌜ r ≡ recoverOf unit (lent (now (h .entry)) (now (g .entry)) (now (aux .entry))) i ⌝ }
+{
+    if !formed::well_formed(unit, h, g, aux) {
+        return retrieve::not_recovered(14);
+    }
+    if checks::outside(1, unit.k, i) {
+        return retrieve::not_recovered(15);
+    }
+    retrieve::numbered(unit, h, g, aux, i)
 }

@@ -9,7 +9,7 @@ ghost use Rattle.unit.specs.Inner.Masks.{wordBy};
 use crate::variables;
 
 // The n low bits of y.
-fn low(y: u64, n: u64) -> u64
+pub(crate) fn low(y: u64, n: u64) -> u64
     requires { ⌜ n < maxInputs ⌝ }
     ensures { λ r. ⌜ r ≡ y % 2 ^ n ⌝ }
 {

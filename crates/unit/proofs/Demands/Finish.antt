@@ -1,16 +1,17 @@
 -- A build past refusals 1 to 12: it ends accepted or with refusal 13, and an outcome is accepted only through it. Assumes nothing.
-use Prim.Native.Nat.{ℕ, _<_}
+use Prim.Native.Nat.{ℕ, _^_, _<_}
 use native.Mathlib.Omega.{arith}
 use mathlib.Core.Path.{_≡_, refl, ap, _∙_}
 use mathlib.Core.List.{List}
 use mathlib.Core.Logic.{_⊎_, inl, inr}
 use native.Mathlib.Nat.{eq-zero-or-pos}
-use lib.ListN.{length}
+use lib.ListN.{length, replicate, length-replicate}
 use Rattle.vectors.specs.declared.Kind.{Kind}
 use Rattle.rows.specs.Place.{End, all, noFit}
+use Rattle.rows.proofs.Held.{lengths}
 use Rattle.unit.specs.Record.{unitOf}
 use Rattle.unit.specs.Refusals.{Refusal}
-use Rattle.unit.specs.Build.{Tables, Outcome, placingOf, accepted, refused, written, zeroed, finish, outcome}
+use Rattle.unit.specs.Build.{Tables, Outcome, caresFrom, placingOf, accepted, refused, written, zeroed, finish, outcome}
 use Rattle.unit.proofs.Ladder.{outcome-refused, outcome-passed}
 
 module _ (n n1 : ℕ) (ks : List Kind) (cells : ℕ) (vs : List ℕ) (t : Tables) where
@@ -49,3 +50,14 @@ module _ (n n1 : ℕ) (ks : List Kind) (cells : ℕ) (vs : List ℕ) (t : Tables
   -- all rows are placed: accepted
   pub accepted-outcome : (r : Refusal) → r .number ≡ 0 → placingOf n1 ks cells vs .end ≡ all → outcome r n n1 ks cells vs t .built .refusal ≡ 0
   accepted-outcome r z q = ap (λ (o : Outcome). o .built .refusal) (outcome-passed r n n1 ks cells vs t z ∙ finish-all q)
+
+-- ---- the placing
+
+module _ (n1 : ℕ) (ks : List Kind) (cells : ℕ) (vs : List ℕ) where
+  pub placing-rows : length (placingOf n1 ks cells vs .state .h) ≡ 2 ^ n1
+  unfolding placingOf
+  placing-rows = lengths (caresFrom 1 n1 ks vs) (replicate (2 ^ n1) 0) (replicate cells 0) .0 ∙ length-replicate (2 ^ n1) 0
+
+  pub placing-cells : length (placingOf n1 ks cells vs .state .g) ≡ cells
+  unfolding placingOf
+  placing-cells = lengths (caresFrom 1 n1 ks vs) (replicate (2 ^ n1) 0) (replicate cells 0) .1 ∙ length-replicate cells 0

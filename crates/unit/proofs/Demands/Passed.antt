@@ -2,14 +2,12 @@
 use Prim.Native.Nat.{ℕ, zero, suc, _+_, _-_, _^_, _≤_}
 use native.Mathlib.Omega.{arith}
 use mathlib.Core.Path.{_≡_, refl}
-use mathlib.Core.Bool.{true, false, _||_}
+use mathlib.Core.Bool.{true, false}
 use mathlib.Core.List.{List, [], _∷_, _++_, map}
 use lib.Count.{ones}
-use lib.Dec.{ltb}
 use lib.ListN.{length, take}
 use borrow.Author.Tests.{ltb-false, not-false, eqb-true}
 use Rattle.lists.specs.First.{repeated}
-use Rattle.lists.proofs.Tests.{or-false}
 use Rattle.lists.proofs.Members.{All}
 use Rattle.lists.proofs.NonePass.{none-all}
 use Rattle.vectors.specs.declared.Kind.{Kind}
@@ -20,13 +18,14 @@ use Rattle.vectors.specs.Span.{kept, firstDependent}
 use Rattle.vectors.proofs.Numbers.{kinds-length}
 use Rattle.vectors.proofs.Choice.Pairs.{pairs-repeated}
 use Rattle.vectors.proofs.Labels.Count.{kept-number}
-use Rattle.unit.specs.Bounds.{maxVariables, maxSide, tooMany}
+use Rattle.unit.specs.Bounds.{maxVariables, maxSide}
 use Rattle.unit.specs.Record.{rowsShare}
 use Rattle.unit.specs.Refusals.{Refusal, orElse, ladder, listChecks, givenChecks, check2Chosen, check2Given, check8, check9, check10, check11, check12}
 use Rattle.unit.specs.Build.{Tables, chosenRefusal, givenRefusal}
 use Rattle.unit.specs.Demand3.{chosenKinds}
 use Rattle.unit.specs.Inner.Ready.{Split}
 use Rattle.unit.proofs.Ladder.{ladder-append, pass, if-passed, at-passed, ListPassed, list-passed}
+use Rattle.unit.proofs.WellFormed.{Few, few}
 use Rattle.unit.proofs.Demands.Chosen.{choose-few, choose-right, choose-independent}
 
 -- past a ladder, past both of its parts
@@ -38,13 +37,6 @@ pass-both ps qs h = go (ladder ps .number) refl (rw (ladder-append ps qs) at h)
     go (suc m) e h = absurd (omega arith)
 
 -- ---- the bounds of the variables
-
-pub sides : (p n1 : ℕ) → tooMany p n1 ≡ false → (p ≤ maxVariables) × (n1 ≤ p) × (n1 ≤ maxSide) × (p - n1 ≤ maxSide)
-sides p n1 h =
-    let a = or-false (ltb maxVariables p || ltb p n1 || ltb maxSide n1) (ltb maxSide (p - n1)) h in
-    let b = or-false (ltb maxVariables p || ltb p n1) (ltb maxSide n1) (a .0) in
-    let c = or-false (ltb maxVariables p) (ltb p n1) (b .0) in
-    (ltb-false maxVariables p (c .0), ltb-false p n1 (c .1), ltb-false maxSide n1 (b .1), ltb-false maxSide (p - n1) (a .1))
 
 -- "the first n1 = p - floor(p/2) are row variables": with at most 24 variables neither side is above 12
 pub share-sides : (p : ℕ) → p ≤ maxVariables → (rowsShare p ≤ p) × (rowsShare p ≤ maxSide) × (p - rowsShare p ≤ maxSide)
@@ -109,50 +101,55 @@ module _ (n degree cells : ℕ) (vs : List ℕ) (t : Tables) (h : chosenRefusal 
 -- ---- variables given by the caller, in 24 places
 
 module _ (n : ℕ) (variables : List Variable) (p n1 cells : ℕ) (vs : List ℕ) (g aux : ℕ) (places : length variables ≡ maxVariables)
-    (h : ladder (listChecks n (check2Given p n1) cells vs g aux) .number ≡ 0) (k : ladder (givenChecks n (kindsOf (take p variables)) vs) .number ≡ 0) where
-  -- past checks 1 to 10
-  pub given-split : Split n n1 (kindsOf (take p variables))
-  given-split =
+    (h : ladder (listChecks n (check2Given p n1) cells vs g aux) .number ≡ 0) where
+  given-few : Few p n1
+  given-few = few p n1 (if-passed 1 _ (list-passed n (check2Given p n1) cells vs g aux h .two))
+
+  -- past check 2 the variables taken are p
+  pub given-length : length (kindsOf (take p variables)) ≡ p
+  given-length = kinds-length variables p (omega (arith, given-few .all-few))
+
+  -- past checks 1 to 10 they are within the bounds, none is faulty, and none an XOR of earlier ones
+  pub given-split : ladder (givenChecks n (kindsOf (take p variables)) vs) .number ≡ 0 → Split n n1 (kindsOf (take p variables))
+  given-split q =
       let ks : List Kind = kindsOf (take p variables) in
-      let c = pass (check8 n ks) (check9 ks ∷ check10 ks vs ∷ []) k in
+      let c = pass (check8 n ks) (check9 ks ∷ check10 ks vs ∷ []) q in
       let d = pass (check9 ks) (check10 ks vs ∷ []) (c .1) in
-      let s = sides p n1 (if-passed 1 _ (list-passed n (check2Given p n1) cells vs g aux h .two)) in
-      let q : length ks ≡ p = kinds-length variables p (omega (arith, s .0)) in
+      let s = given-few in
       record {
-        few = omega (arith, s .0);
-        rows-in = omega (arith, s .1);
-        rows-few = s .2;
-        columns-few = omega (arith, s .3);
+        few = omega (arith, given-length);
+        rows-in = omega (arith, given-length);
+        rows-few = s .rows-few;
+        columns-few = omega (arith, given-length);
         right = none-all (faulty n) ks (at-passed 7 _ (c .0));
         independent = at-passed 8 _ (d .0);
       }
 
-  pub given-apart : repeated (map (numberOf (kindsOf (take p variables))) vs) ≡ 0
-  given-apart =
-      let ks : List Kind = kindsOf (take p variables) in
-      let c = pass (check8 n ks) (check9 ks ∷ check10 ks vs ∷ []) k in
-      let d = pass (check9 ks) (check10 ks vs ∷ []) (c .1) in
-      at-passed 9 _ (pass (check10 ks vs) [] (d .1) .0)
-
 module _ (n : ℕ) (variables : List Variable) (p n1 cells : ℕ) (vs : List ℕ) (t : Tables) (places : length variables ≡ maxVariables)
     (h : givenRefusal n p n1 (kindsOf (take p variables)) cells vs t .number ≡ 0) where
-  pub given-passed : Passed n n1 (check2Given p n1) (kindsOf (take p variables)) cells vs t
+  given-parts : (ladder (listChecks n (check2Given p n1) cells vs (length (t .g)) (length (t .aux))) .number ≡ 0)
+      × (ladder (givenChecks n (kindsOf (take p variables)) vs) .number ≡ 0)
+      × (ladder (check12 n1 (t .h) ∷ []) .number ≡ 0)
   unfolding givenRefusal
-  given-passed =
+  given-parts =
       let ks : List Kind = kindsOf (take p variables) in
       let a = pass-both (listChecks n (check2Given p n1) cells vs (length (t .g)) (length (t .aux))) (givenChecks n ks vs ++ (check12 n1 (t .h) ∷ [])) h in
       let b = pass-both (givenChecks n ks vs) (check12 n1 (t .h) ∷ []) (a .1) in
-      let f = pass (check12 n1 (t .h)) [] (b .1) in
+      (a .0, b .0, b .1)
+
+  pub given-passed : Passed n n1 (check2Given p n1) (kindsOf (take p variables)) cells vs t
+  given-passed =
+      let ks : List Kind = kindsOf (take p variables) in
+      let c = pass (check8 n ks) (check9 ks ∷ check10 ks vs ∷ []) (given-parts .1) in
+      let d = pass (check9 ks) (check10 ks vs ∷ []) (c .1) in
       record {
-        list = list-passed n (check2Given p n1) cells vs (length (t .g)) (length (t .aux)) (a .0);
-        split = given-split n variables p n1 cells vs (length (t .g)) (length (t .aux)) places (a .0) (b .0);
-        apart = given-apart n variables p n1 cells vs (length (t .g)) (length (t .aux)) places (a .0) (b .0);
-        rows-fit = ltb-false (length (t .h)) (2 ^ n1) (if-passed 11 _ (f .0));
+        list = list-passed n (check2Given p n1) cells vs (length (t .g)) (length (t .aux)) (given-parts .0);
+        split = given-split n variables p n1 cells vs (length (t .g)) (length (t .aux)) places (given-parts .0) (given-parts .1);
+        apart = at-passed 9 _ (pass (check10 ks vs) [] (d .1) .0);
+        rows-fit = ltb-false (length (t .h)) (2 ^ n1) (if-passed 11 _ (pass (check12 n1 (t .h)) [] (given-parts .2) .0));
       }
 
   -- exactly n - p inputs are kept
   pub given-kept : ones (kept n (kindsOf (take p variables))) + p ≡ n
   given-kept =
-      let s : p ≤ maxVariables = sides p n1 (if-passed 1 _ (given-passed .list .two)) .0 in
-      let q : length (kindsOf (take p variables)) ≡ p = kinds-length variables p (omega arith) in
-      rw q at (split-kept n n1 (kindsOf (take p variables)) (given-passed .split))
+      rw (given-length n variables p n1 cells vs (length (t .g)) (length (t .aux)) places (given-parts .0)) at (split-kept n n1 (kindsOf (take p variables)) (given-passed .split))

@@ -10,7 +10,8 @@ use Rattle.unit.specs.Refusals.{Refusal, ladder, refuseIf, listChecks, c
 use Rattle.unit.specs.Build.{Tables, lent, after}
 use Rattle.unit.specs.Inner.Ready.{numbered}
 use Rattle.unit.proofs.Ladder.{ListPassed, list-passed, if-passed}
-use Rattle.unit.proofs.Demands.Passed.{sides, given-split}
+use Rattle.unit.proofs.Demands.Passed.{given-split}
+use Rattle.unit.proofs.WellFormed as wellformed
 use Rattle.unit.proofs.Builds.{givenList, given-list, given-variables, given-rest}
 use borrow.Author.Needs.{needs}
 use Rattle.unit.proofs.build_given.Statement.{statement}
@@ -33,7 +34,7 @@ list : (c : tie.Else1) → let s = c .before .before .before .before .before .be
 list c = list-passed _ _ _ _ _ _ (passed c)
 
 few : (c : tie.Else1) → c .before .before .before .before .before .before .before .before .args .p ≤ maxVariables
-few c = let s = c .before .before .before .before .before .before .before .before in sides (s .args .p) (s .args .n1) (if-passed 1 _ (list c .two)) .0
+few c = let s = c .before .before .before .before .before .before .before .before in wellformed.few (s .args .p) (s .args .n1) (if-passed 1 _ (list c .two)) .all-few
 
 -- what checks 8 to 10 say
 right : (c : tie.Else2) → let s = c .before .before .before .before .before .before .before .before .before .before .before in ladder (givenChecks (s .args .n) (kindsOf (take (s .args .p) (s .args .variables))) (s .args .vectors .now)) .number ≡ 0

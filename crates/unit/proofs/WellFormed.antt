@@ -1,0 +1,78 @@
+-- What the tests of a well-formed unit say. Assumes nothing.
+use Prim.Native.Nat.{ℕ, _-_, _≤_}
+use mathlib.Core.Path.{_≡_}
+use mathlib.Core.Bool.{true, false}
+use borrow.Author.Tests.{ltb-true, ltb-false, leb-true, eqb-true, not-true}
+use Rattle.lists.proofs.Tests.{and-true, or-false}
+use Rattle.lists.proofs.NonePass.{none-all}
+use Rattle.vectors.specs.Variable.{faulty}
+use Rattle.unit.specs.declared.Unit.{Unit as Igu}
+use Rattle.unit.specs.Bounds.{maxInputs, maxVariables, maxSide, outside, tooMany}
+use Rattle.unit.specs.Record.{kindsIn}
+use Rattle.unit.specs.Build.{Tables}
+use Rattle.unit.specs.Lookup.{inBounds, rightInputs, wellFormed}
+use Rattle.unit.specs.Inner.Formed.{InBounds, RightInputs, WellFormed}
+
+-- what is not outside is low to high
+pub inside : (low high x : ℕ) → outside low high x ≡ false → (low ≤ x) × (x ≤ high)
+inside low high x h = let o = or-false _ _ h in (ltb-false x low (o .0), ltb-false high x (o .1))
+
+-- variables that are not too many
+pub record Few (p n1 : ℕ) : Type 0 where
+  pub all-few : p ≤ maxVariables
+  pub rows-in : n1 ≤ p
+  pub rows-few : n1 ≤ maxSide
+  pub columns-few : p - n1 ≤ maxSide
+
+pub few : (p n1 : ℕ) → tooMany p n1 ≡ false → Few p n1
+few p n1 h =
+    let c = or-false _ _ h in
+    let b = or-false _ _ (c .0) in
+    let a = or-false _ _ (b .0) in
+    record {
+      all-few = ltb-false maxVariables p (a .0);
+      rows-in = ltb-false p n1 (a .1);
+      rows-few = ltb-false maxSide n1 (b .1);
+      columns-few = ltb-false maxSide (p - n1) (c .1);
+    }
+
+pub in-bounds : (u : Igu) → inBounds u ≡ true → InBounds u
+in-bounds u h =
+    let split = and-true _ _ h in
+    let all = and-true _ _ (split .0) in
+    let n = and-true _ _ (and-true _ _ (all .0) .0) in
+    let sides = few (u .p) (u .n1) (not-true _ (split .1)) in
+    record {
+      inputs = inside 1 maxInputs (u .n) (not-true _ (n .0)) .1;
+      within = leb-true _ _ (all .1);
+      few = sides .all-few;
+      rows-in = sides .rows-in;
+      rows-few = sides .rows-few;
+      columns-few = sides .columns-few;
+    }
+
+right-inputs : (u : Igu) → rightInputs u ≡ true → RightInputs u
+right-inputs u h =
+    let within = and-true _ _ h in
+    let first = and-true _ _ (within .0) in
+    record {
+      right = none-all (faulty (u .n)) (kindsIn u) (eqb-true _ _ (first .0));
+      kept-number = eqb-true _ _ (first .1);
+      kept-in = ltb-true _ _ (within .1);
+    }
+
+-- a unit that passes the tests has what they say
+pub well-formed-facts : (u : Igu) (t : Tables) → wellFormed u t ≡ true → WellFormed u t
+unfolding wellFormed
+well-formed-facts u t h =
+    let long = and-true _ _ h in
+    let words = and-true _ _ (long .1) in
+    let rows = and-true _ _ (words .0) in
+    let right = and-true _ _ (long .0) in
+    record {
+      bounds = in-bounds u (right .0);
+      inputs = right-inputs u (right .1);
+      rows-held = leb-true _ _ (rows .0);
+      cells-held = leb-true _ _ (rows .1);
+      words-held = ltb-true _ _ (words .1);
+    }
