@@ -1,0 +1,72 @@
+// What the cases print.
+use libc::STDOUT_FILENO;
+use unit::Built;
+use unit::Found;
+use unit::Recovered;
+
+fn number(x: u64) {
+    io::write_all(STDOUT_FILENO, b" ");
+    io::print_decimal(STDOUT_FILENO, x);
+}
+
+fn mix(digest: u64, word: u64) -> u64 {
+    (digest << 5) ^ (digest >> 2) ^ word
+}
+
+fn wide(x: u16) -> u64 {
+    x as u64
+}
+
+fn digest16(words: &[u16]) -> u64 {
+    let mut d: u64 = 0;
+    let mut i = 0;
+    while i < words.len() {
+        d = mix(d, wide(words[i]));
+        i += 1;
+    }
+    d
+}
+
+fn digest64(words: &[u64]) -> u64 {
+    let mut d: u64 = 0;
+    let mut i = 0;
+    while i < words.len() {
+        d = mix(d, words[i]);
+        i += 1;
+    }
+    d
+}
+
+// The refusal and its place, p, n1, tries and the kept inputs of the record, and a digest of each table.
+pub(crate) fn built(b: Built, h: &[u16], g: &[u16], aux: &[u64]) {
+    let u = b.unit;
+    io::write_all(STDOUT_FILENO, b"build");
+    number(b.refusal as u64);
+    number(b.place as u64);
+    number(u.p as u64);
+    number(u.n1 as u64);
+    number(u.tries);
+    number(u.kept);
+    number(digest16(h));
+    number(digest16(g));
+    number(digest64(aux));
+    io::write_all(STDOUT_FILENO, b"\n");
+}
+
+// The refusal, its place and the index.
+pub(crate) fn found(f: Found) {
+    io::write_all(STDOUT_FILENO, b"lookup");
+    number(f.refusal as u64);
+    number(f.place as u64);
+    number(f.index as u64);
+    io::write_all(STDOUT_FILENO, b"\n");
+}
+
+// The refusal, its place and the vector.
+pub(crate) fn recovered(r: Recovered) {
+    io::write_all(STDOUT_FILENO, b"recover");
+    number(r.refusal as u64);
+    number(r.place as u64);
+    number(r.vector);
+    io::write_all(STDOUT_FILENO, b"\n");
+}
