@@ -1,6 +1,7 @@
 // Runs the cases of document 01 that are not proved as theorems, and each cause of each refusal; the output is compared.
 mod builds;
 mod lookups;
+mod pages;
 mod say;
 
 fn main() {
@@ -9,4 +10,5 @@ fn main() {
     builds::variable_refusals();
     builds::table_refusals();
     lookups::run();
+    pages::run();
 }

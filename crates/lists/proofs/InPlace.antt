@@ -39,11 +39,6 @@ module _ {A : Type 0} (f : A → A) where
   part-keep zero (x ∷ xs) d h = ap (λ (y : A). y ∷ xs) (sym h)
   part-keep (suc i) (x ∷ xs) d h = ap (λ (t : List A). f x ∷ t) (part-keep i xs d h)
 
-  -- at the start
-  pub part-none : (l : List A) → l ≡ part f 0 l
-  unfolding part
-  part-none l = refl
-
   -- at the end
   pub part-all : (i : ℕ) (l : List A) → length l ≤ i → part f i l ≡ map f l
   unfolding part

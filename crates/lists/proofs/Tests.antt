@@ -50,9 +50,6 @@ eqb-iff {a} {b} {c} {d} f g = go (eqb a b) refl
     go true e = sym (eq-eqb c d (f (eqb-true a b e)))
     go false e = sym (ne-eqb c d (λ p. eqb-false a b e (g p)))
 
-pub eqb-sym : (s t : ℕ) → eqb s t ≡ eqb t s
-eqb-sym s t = eqb-iff {a = s} {b = t} (λ p. sym p) (λ p. sym p)
-
 pub leb-ltb : (a b : ℕ) → leb a b ≡ ltb a (suc b)
 leb-ltb a b = go (leb a b) refl
   where

@@ -2,7 +2,7 @@
 use Prim.Native.Nat.{ℕ, _+_, _<_}
 use native.Mathlib.Omega.{arith}
 use mathlib.Core.Path.{_≡_, refl, sym, ap, _∙_}
-use mathlib.Core.Bool.{Bool, true, false, true≢false, false≢true}
+use mathlib.Core.Bool.{true, false, true≢false, false≢true}
 use mathlib.Core.List.{List}
 use mathlib.Core.Logic.{_⊎_, inl, inr, ⊎-elim}
 use lib.ListN.{length, getD, set}
@@ -15,12 +15,12 @@ use Rattle.rows.specs.Fit.{at, firstFit, put}
 use Rattle.rows.specs.Place.{Placed, all, placeRow}
 use Rattle.rows.specs.Demand.{filled}
 use Rattle.rows.proofs.Filled.{filled-none}
-use Rattle.rows.proofs.Fits.{fit-at, fit-low}
+use Rattle.rows.proofs.Fits.{fit-at}
 use Rattle.rows.proofs.Open.{open-not, open-weight}
 use Rattle.rows.proofs.Turns.{Next, at-end}
 use Rattle.rows.proofs.Order.{ordered}
 use Rattle.rows.proofs.Cells.{Distinct, in-row, row-in, row-apart, fits-free, put-length, put-other, put-own, put-either, cells-length}
-use Rattle.rows.proofs.Demand3.{P, all-placed, others-zero}
+use Rattle.rows.proofs.Demand3.{P, all-placed}
 
 -- the cell i holds the index of a vector that leads there
 pub record Lies (cs : List Care) (s : Placed) (i : ℕ) : Type 0 where
@@ -34,7 +34,6 @@ pub record Lies (cs : List Care) (s : Placed) (i : ℕ) : Type 0 where
 record Lying (cs : List Care) (g₀ : List ℕ) (s : Placed) : Type 0 where
   back : (i : ℕ) → i < length (s .g) → (getD (s .g) i 0 ≡ getD g₀ i 0) ⊎ Lies cs s i
   kept : (i : ℕ) → (getD g₀ i 0 ≡ 0 → ⊥) → getD (s .g) i 0 ≡ getD g₀ i 0
-  low : (r : ℕ) → has r (s .order) ≡ true → getD (s .h) r 0 < length (s .g)
 
 open-row : (cs : List Care) (order : List ℕ) (r : ℕ) → 0 < openWeight cs order r → openWeight cs order r ≡ length (inRow r cs)
 unfolding weightOf
@@ -76,7 +75,6 @@ module _ (cs : List Care) (s : Placed) (r d : ℕ) (n : Next cs s r) (f : firstF
       record {
         back = λ i l. by i (rw put-length at l);
         kept = λ i z. put-other (s .g) d i (inRow r cs) (λ x m e. z (sym (y .kept i z) ∙ ap (λ (j : ℕ). getD (s .g) j 0) (sym e) ∙ free x m .1)) ∙ y .kept i z;
-        low = λ q m. ⊎-elim (λ e. omega (arith, size, below, ap (λ (x : ℕ). getD (set (s .h) r d) x 0) e, is)) (λ k. omega (arith, size, getD-set-other (s .h) r q d 0 (other q k), y .low q k)) (has-cons q r (s .order) m);
       }
     where
       by : (i : ℕ) → i < length (s .g) → (getD (placeRow cs s r d .g) i 0 ≡ getD g₀ i 0) ⊎ Lies cs (placeRow cs s r d) i
@@ -85,12 +83,6 @@ module _ (cs : List Care) (s : Placed) (r d : ℕ) (n : Next cs s r) (f : firstF
           (λ e. ⊎-elim (λ p. inl (e ∙ p)) (λ p. inr (lies-on i e p)) (y .back i l))
           (λ p. inr (lies-new i (p .0) (p .1) (p .2) (p .3)))
           (put-either (s .g) d i (inRow r cs) l)
-
-      size : length (placeRow cs s r d .g) ≡ length (s .g)
-      size = put-length (s .g) d (inRow r cs)
-
-      below : d < length (s .g)
-      below = fit-low (s .g) (inRow r cs) d (omega (arith, n .weighs, open-row cs (s .order) r (n .weighs))) f
 
 -- a vector whose row is placed lies in its cell
 abbrev Holding : List Care → Placed → Type 0
@@ -121,7 +113,7 @@ module _ (cs : List Care) (h g : List ℕ) where
   unfolding has
   lying =
       at-end cs (Lying cs g) (λ s r d n f. lying-turn cs s r d n f g) h g
-      (record { back = λ i l. inl refl; kept = λ i z. refl; low = λ r m. absurd (false≢true m) })
+      (record { back = λ i l. inl refl; kept = λ i z. refl })
 
   pub lengths : (length (P cs h g .state .h) ≡ length h) × (length (P cs h g .state .g) ≡ length g)
   lengths = (ordered cs h g .size, cells-length cs h g)
@@ -137,14 +129,6 @@ module _ (cs : List Care) (h g : List ℕ) where
   -- over empty cells, each that is not empty holds the index of a vector that leads there
   pub held-only : filled g ≡ 0 → (i : ℕ) → i < length g → (getD (P cs h g .state .g) i 0 ≡ 0 → ⊥) → Lies cs (P cs h g .state) i
   held-only e i l n = ⊎-elim (λ q. absurd (n (q ∙ filled-none g i e))) (λ p. p) (held-back i l)
-
-  -- each displacement is below the number of cells, or 0
-  pub below-cells : ((i : ℕ) → getD h i 0 ≡ 0) → (r : ℕ) → (getD (P cs h g .state .h) r 0 < length g) ⊎ (getD (P cs h g .state .h) r 0 ≡ 0)
-  below-cells z r = go (has r (P cs h g .state .order)) refl
-    where
-      go : (t : Bool) → has r (P cs h g .state .order) ≡ t → (getD (P cs h g .state .h) r 0 < length g) ⊎ (getD (P cs h g .state .h) r 0 ≡ 0)
-      go true m = inl (omega (arith, lying .low r m, cells-length cs h g))
-      go false m = inr (others-zero cs h g z r m)
 
   -- where all rows are placed, every vector lies in its cell
   pub all-held : Distinct cs → ((c : Care) → In c cs → 0 < c .index) → ((c : Care) → In c cs → c .row < length h) → P cs h g .end ≡ all → (c : Care) → In c cs

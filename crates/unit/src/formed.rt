@@ -54,7 +54,7 @@ fn long_enough(unit: Unit, h: &[u16], g: &[u16], aux: &[u64]) -> bool
     unit.k < aux.len()
 }
 
-pub(crate) fn well_formed(unit: Unit, h: &[u16], g: &[u16], aux: &[u64]) -> bool
+pub fn well_formed(unit: Unit, h: &[u16], g: &[u16], aux: &[u64]) -> bool
     ensures { λ r. ⌜ r ≡ wellFormed unit (lent (now (h .entry)) (now (g .entry)) (now (aux .entry))) ⌝ }
 {
     if !in_bounds(unit) {

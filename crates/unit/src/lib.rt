@@ -18,6 +18,9 @@ mod span;
 mod variables;
 mod word;
 
+pub use formed::well_formed;
+pub use variables::mask;
+
 // What a build leaves beside the tables. The part marks in it are set from n1, and nothing reads them.
 pub struct Unit {
     pub n: usize,

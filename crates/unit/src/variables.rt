@@ -23,7 +23,7 @@ fn place(i: u8) -> u64
 }
 
 // The inputs of a variable.
-pub(crate) fn mask(kind: Kind) -> u64
+pub fn mask(kind: Kind) -> u64
     ensures { λ r. ⌜ r ≡ maskOf kind % 2 ^ maxInputs ⌝ }
 {
     match kind {

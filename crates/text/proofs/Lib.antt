@@ -1,0 +1,12 @@
+pub mod Reading
+pub mod Decimals
+pub mod Puts
+pub mod Spelling
+pub mod Writing
+pub mod Fields
+pub mod Lines
+pub mod Signs
+pub mod Pages
+pub mod Fitting
+pub mod Prints
+pub mod Answers

@@ -1,0 +1,35 @@
+-- A text read from a place on: the field there, its number, and the fields that are left.
+use Prim.Native.Nat.{ℕ, _+_}
+use mathlib.Core.Bool.{true, false, cond}
+use mathlib.Core.List.{List, [], _∷_}
+use lib.Dec.{leb, ltb}
+use lib.ListN.{length, drop}
+use Rattle.text.specs.declared.parse.Number.{Number}
+use Rattle.text.specs.Input.{separator, fields, every, goodField, valueOf}
+
+abbrev pub noNumber : Number
+noNumber = record { good = false; value = 0; end = 0 }
+
+-- the bytes in front of the first separator
+unfoldable pub field : List ℕ → List ℕ
+field [] = []
+field (b ∷ bs) = elim (separator b) [ true ↦ [] | false ↦ b ∷ field bs ]
+
+-- the number of a field that starts at from
+unfoldable pub fieldAt : ℕ → List ℕ → Number
+fieldAt from f = elim (goodField f) [ true ↦ record { good = true; value = valueOf f; end = from + length f } | false ↦ noNumber ]
+
+unfoldable pub numberAt : List ℕ → ℕ → Number
+numberAt text from = fieldAt from (field (drop from text))
+
+-- the number of the digits between two places, if there are any
+abbrev pub endedAt : ℕ → ℕ → ℕ → Number
+endedAt value from end = cond (ltb from end) (record { good = true; value = value; end = end }) noNumber
+
+-- the fields from a place on; none past the text's end
+unfoldable pub left : List ℕ → ℕ → List (List ℕ)
+left text at = elim (leb at (length text)) [ true ↦ fields (drop at text) | false ↦ [] ]
+
+-- how many numbers the fields are; 0 if one is no number
+unfoldable pub countOf : List (List ℕ) → ℕ
+countOf fs = cond (every goodField fs) (length fs) 0
