@@ -22,6 +22,20 @@ module _ {A : Type 0} (test : List A → A → Bool) where
   unfolding firstIn
   first-on before x xs i h = rw (h, firstIn)
 
+-- the number that is found is at most the last one's
+first-in-le : {A : Type 0} (test : List A → A → Bool) (before xs : List A) (i : ℕ) → firstIn test before xs (suc i) ≤ i + length xs
+unfolding firstIn
+first-in-le test before [] i = omega arith
+first-in-le {A} test before (x ∷ xs) i = go (test before x) refl (first-in-le test (x ∷ before) xs (suc i))
+  where
+    go : (t : Bool) → test before x ≡ t → firstIn test (x ∷ before) xs (suc (suc i)) ≤ suc i + length xs → firstIn test before (x ∷ xs) (suc i) ≤ i + length (x ∷ xs)
+    go true p r = omega (arith, first-here test before x xs (suc i) p)
+    go false p r = omega (arith, first-on test before x xs (suc i) p)
+
+pub first-length : {A : Type 0} (test : List A → A → Bool) (xs : List A) → firstOf test xs ≤ length xs
+unfolding firstOf
+first-length test xs = omega (arith, first-in-le test [] xs 0)
+
 none-in : {A : Type 0} (test : A → Bool) (before xs : List A) (i : ℕ) → firstIn (λ before x. test x) before xs (suc i) ≡ 0 → All (λ x. test x ≡ false) xs
 none-in test before [] i e = tt
 none-in {A} test before (x ∷ xs) i e = go (test x) refl (none-in test (x ∷ before) xs (suc i))

@@ -7,4 +7,6 @@ pub mod Firsts
 pub mod Repeats
 pub mod NonePass
 pub mod InPlace
+pub mod Mapped
 pub mod Equals
+pub mod Signs

@@ -4,42 +4,27 @@ use native.Mathlib.Omega.{arith}
 use native.Mathlib.Nat.{mod-eq-of-lt, one-mul}
 use native.Mathlib.Numerals.{add-one}
 use mathlib.Core.Path.{_≡_, _∙_}
-use mathlib.Core.Bool.{true, false, not, _&&_, _||_}
+use mathlib.Core.Bool.{false, not, _||_}
 use mathlib.Core.List.{List, map}
-use borrow.Author.Tests.{not-true, ltb-false, leb-false}
+use borrow.Author.Tests.{ltb-false, leb-false}
 use lib.Bits.{xor-lt}
 use lib.Dec.{eqb, leb, ltb}
 use lib.IntN.{ℤ}
 use lib.ListN.{take}
 use lib.Pow.{pow-pos, pow-lt, pow-mono, shl-exact}
-use Rattle.lists.proofs.Tests.{and-true, or-false}
+use Rattle.lists.proofs.Tests.{or-false}
 use Rattle.lists.proofs.Members.{All, map-same}
 use Rattle.vectors.specs.declared.Kind.{Kind}
 use Rattle.vectors.specs.declared.Kind.the-variants.{One, Two}
 use Rattle.vectors.specs.Bits.{placeOf}
 use Rattle.vectors.specs.Variable.{maskOf, faulty}
 use Rattle.unit.specs.declared.Unit.{Unit as Igu}
-use Rattle.unit.specs.Bounds.{maxInputs, maxVectors, maxCells, maxSide, outside, tooMany}
+use Rattle.unit.specs.Bounds.{maxInputs, maxSide}
 use Rattle.unit.specs.Record.{kindsIn}
 use Rattle.unit.specs.Build.{Tables}
-use Rattle.unit.specs.Lookup.{inBounds, rightInputs, longEnough, wellFormed}
 use Rattle.unit.specs.Inner.Formed.{WellFormed}
 use Rattle.unit.specs.Inner.Masks.{masksOf}
-use Rattle.unit.proofs.WellFormed.{inside}
 use Rattle.text.specs.Print.{numbersOf, pageOf, textOf}
-
--- few vectors and cells
-pub few-words : (u : Igu) (t : Tables) → wellFormed u t ≡ true → (u .k ≤ maxVectors) × (u .cells ≤ maxCells)
-unfolding wellFormed
-few-words u t h =
-    let n = not (outside 1 maxInputs (u .n)) in
-    let k = not (outside 1 maxVectors (u .k)) in
-    let c = not (outside 1 maxCells (u .cells)) in
-    let p = leb (u .p) (u .n) in
-    let right = and-true (inBounds u) (rightInputs u) (and-true (inBounds u && rightInputs u) (longEnough u t) h .0) in
-    let within = and-true (n && k && c && p) (not (tooMany (u .p) (u .n1))) (right .0) in
-    let cells = and-true (n && k) c (and-true (n && k && c) p (within .0) .0) in
-    (inside 1 maxVectors (u .k) (not-true _ (and-true n k (cells .0) .1)) .1, inside 1 maxCells (u .cells) (not-true _ (cells .1)) .1)
 
 -- the code's number of rows
 pub rows-are : (n1 : ℕ) → n1 ≤ maxSide → (1 * 2 ^ n1 % 2 ^ maxInputs ≡ 2 ^ n1) × (2 ^ n1 ≤ 4096)

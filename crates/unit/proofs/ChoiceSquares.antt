@@ -3,10 +3,11 @@ use Prim.Native.Nat.{ℕ, _+_, _-_, _*_, _≤_, _<_}
 use native.Mathlib.Omega.{arith}
 use native.Mathlib.Nat.{mul-le-mul-right}
 use native.Mathlib.Numerals.{add-one}
-use mathlib.Core.Path.{_≡_, refl, sym, ap, _∙_}
-use mathlib.Core.List.{List, [], _∷_, map, map-append}
+use mathlib.Core.Path.{_≡_, refl, ap, _∙_}
+use mathlib.Core.List.{List, [], _∷_, map}
 use lib.ListN.{length, getD, take, drop, set, length-set, drop-of-length-le}
-use lib.Seq.{take-suc, take-suc-set, take-length, drop-cons}
+use lib.Seq.{take-length, drop-cons}
+use Rattle.lists.proofs.Mapped.{mapped-more}
 use Rattle.vectors.proofs.Choice.Groups.{members}
 use Rattle.vectors.proofs.Choice.Squares.{tally, square, squares, tally-le}
 use Rattle.unit.specs.Bounds.{maxVectors}
@@ -31,9 +32,7 @@ module _ (f : ℕ → ℕ) (order before : List ℕ) where
       record {
         within = omega arith;
         size = length-set words i (f (getD order i d)) ∙ s .size;
-        is =
-            rw (add-one i, take-suc-set words i (f (getD order i d)) (omega (arith, s .size)), take-suc order i d h, s .is)
-            (sym (map-append f (take i order) (getD order i d ∷ [])));
+        is = mapped-more f order words i (f (getD order i d)) d h (omega (arith, s .size)) refl (s .is);
       }
 
   pub gathered-end : (words : List ℕ) (i : ℕ) → length order ≤ i → Gathered f order before words i → take (length order) words ≡ map f order

@@ -19,6 +19,7 @@ pub mod ChoiceStage
 pub mod Values
 pub mod Lookups
 pub mod Recovery
+pub mod Places
 pub mod Demands
 pub mod Builds
 pub mod Demand2

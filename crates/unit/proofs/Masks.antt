@@ -2,13 +2,14 @@
 use Prim.Native.Nat.{ℕ, suc, _+_, _-_, _*_, _%_, _^_, _≤_, _<_}
 use native.Mathlib.Omega.{arith}
 use native.Mathlib.Nat.{pow-suc, lt-of-lt-of-le, mul-comm}
-use native.Mathlib.Numerals.{add-one}
 use mathlib.Core.Path.{_≡_, refl, sym, ap, ap₂, _∙_}
-use mathlib.Core.List.{List, [], _∷_, map-append}
+use mathlib.Core.List.{List, [], _∷_}
 use lib.Count.{ones}
 use lib.ListN.{length, getD, take, drop, set, length-set, length-drop, length-map}
 use lib.Pow.{pow-mono, shl-exact}
-use lib.Seq.{take-suc, take-suc-set, drop-cons, drop-length, length-take-le}
+use lib.Seq.{drop-cons, drop-length, length-take-le}
+use Rattle.lists.proofs.Mapped.{mapped-more}
+use Rattle.lists.proofs.Members.{map-map}
 use Rattle.vectors.specs.declared.Kind.{Kind}
 use Rattle.vectors.specs.declared.Variable.{Variable}
 use Rattle.vectors.specs.Variable.{numberOf, maskOf, kindsOf}
@@ -68,10 +69,8 @@ masking-more vs m i v d h e s =
     record {
       size = length-set m i v ∙ s .size;
       is =
-          rw (add-one i, take-suc-set m i v g, take-suc vs i d h, s .is, e)
-          (sym
-          (ap masksOf (map-append (λ (u : Variable). u .kind) (take i vs) (getD vs i d ∷ []))
-          ∙ map-append (λ (k : Kind). maskOf k % 2 ^ maxInputs) (kindsOf (take i vs)) (getD vs i d .kind ∷ [])));
+          mapped-more (λ (u : Variable). maskOf (u .kind) % 2 ^ maxInputs) vs m i v d h g e (s .is ∙ map-map (λ (k : Kind). maskOf k % 2 ^ maxInputs) (λ (u : Variable). u .kind) (take i vs))
+          ∙ sym (map-map (λ (k : Kind). maskOf k % 2 ^ maxInputs) (λ (u : Variable). u .kind) (take (i + 1) vs));
     }
 
 -- ---- the comparison word

@@ -1,16 +1,17 @@
 -- What the tests of a well-formed unit say. Assumes nothing.
 use Prim.Native.Nat.{ℕ, _-_, _≤_}
 use mathlib.Core.Path.{_≡_}
-use mathlib.Core.Bool.{true, false}
+use mathlib.Core.Bool.{true, false, not, _&&_}
 use borrow.Author.Tests.{ltb-true, ltb-false, leb-true, eqb-true, not-true}
+use lib.Dec.{leb}
 use Rattle.lists.proofs.Tests.{and-true, or-false}
 use Rattle.lists.proofs.NonePass.{none-all}
 use Rattle.vectors.specs.Variable.{faulty}
 use Rattle.unit.specs.declared.Unit.{Unit as Igu}
-use Rattle.unit.specs.Bounds.{maxInputs, maxVariables, maxSide, outside, tooMany}
+use Rattle.unit.specs.Bounds.{maxInputs, maxVectors, maxCells, maxVariables, maxSide, outside, tooMany}
 use Rattle.unit.specs.Record.{kindsIn}
 use Rattle.unit.specs.Build.{Tables}
-use Rattle.unit.specs.Lookup.{inBounds, rightInputs, wellFormed}
+use Rattle.unit.specs.Lookup.{inBounds, rightInputs, longEnough, wellFormed}
 use Rattle.unit.specs.Inner.Formed.{InBounds, RightInputs, WellFormed}
 
 -- what is not outside is low to high
@@ -76,3 +77,16 @@ well-formed-facts u t h =
       cells-held = leb-true _ _ (rows .1);
       words-held = ltb-true _ _ (words .1);
     }
+
+-- few vectors and cells
+pub few-words : (u : Igu) (t : Tables) → wellFormed u t ≡ true → (u .k ≤ maxVectors) × (u .cells ≤ maxCells)
+unfolding wellFormed
+few-words u t h =
+    let n = not (outside 1 maxInputs (u .n)) in
+    let k = not (outside 1 maxVectors (u .k)) in
+    let c = not (outside 1 maxCells (u .cells)) in
+    let p = leb (u .p) (u .n) in
+    let right = and-true (inBounds u) (rightInputs u) (and-true (inBounds u && rightInputs u) (longEnough u t) h .0) in
+    let within = and-true (n && k && c && p) (not (tooMany (u .p) (u .n1))) (right .0) in
+    let cells = and-true (n && k) c (and-true (n && k && c) p (within .0) .0) in
+    (inside 1 maxVectors (u .k) (not-true _ (and-true n k (cells .0) .1)) .1, inside 1 maxCells (u .cells) (not-true _ (cells .1)) .1)

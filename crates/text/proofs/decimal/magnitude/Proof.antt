@@ -6,7 +6,7 @@ use lib.IntN.{ℤ, pos, natAbs}
 use mir.Facts.{toZ-ofZ}
 use mir.Syntax.{w64}
 use mir.Val.{toZ, ofZ}
-use Rattle.text.proofs.Signs.{Below, flipped, below, above}
+use Rattle.lists.proofs.Signs.{Below, flipped, below, above}
 use Rattle.text.proofs.decimal.magnitude.Statement.{statement}
 use Rattle.text.proofs.decimal.magnitude.Tie as tie
 

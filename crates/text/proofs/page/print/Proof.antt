@@ -15,7 +15,8 @@ use Rattle.unit.specs.Inner.Formed.{WellFormed}
 use Rattle.unit.proofs.WellFormed.{well-formed-facts}
 use Rattle.text.specs.Print.{fitted}
 use Rattle.text.proofs.Fitting.{print-unformed, print-formed}
-use Rattle.text.proofs.Prints.{few-words, rows-are, text-is}
+use Rattle.unit.proofs.WellFormed.{few-words}
+use Rattle.text.proofs.Prints.{rows-are, text-is}
 use borrow.Author.Needs.{needs}
 use Rattle.text.proofs.page.print.Statement.{statement}
 use Rattle.text.proofs.page.print.Tie as tie

@@ -1,0 +1,66 @@
+-- What the calls of the boundary give, from what the calls of the unit give. Assumes nothing.
+use Prim.Native.Nat.{ℕ, _≤_, _<_}
+use native.Mathlib.Omega.{arith}
+use mathlib.Core.Path.{_≡_, refl, sym, ap, ap₂, _∙_}
+use mathlib.Core.Bool.{Bool, true, false, cond}
+use mathlib.Core.List.{List, map}
+use Rattle.vectors.specs.declared.Variable.{Variable}
+use Rattle.unit.specs.declared.Built.{Built}
+use Rattle.unit.specs.declared.Found.{Found}
+use Rattle.unit.specs.declared.Recovered.{Recovered}
+use Rattle.unit.specs.declared.Unit.{Unit as Igu}
+use Rattle.unit.specs.Build.{Tables, Outcome, after, lent, buildChosen, buildGiven}
+use Rattle.unit.specs.Lookup.{notFound, lookupOf}
+use Rattle.unit.specs.Recover.{notRecovered, recoverOf}
+use Rattle.unit.proofs.Places.{placeLimit, found-index}
+use Rattle.bridge.specs.Flat.{variableAt, flatOf, variableWords, unitAt, allInRange}
+use Rattle.bridge.specs.Calls.{answer, left, leftBy, buildCall, givenCall, foundIn, recoveredIn, lookupCall}
+
+-- ---- the builds
+
+module _ (r : Built) (h g aux : List ℕ) (o : Outcome) (e : after r h g aux ≡ o) where
+  pub place-fits : o .built .place < placeLimit → r .place < 65536
+  place-fits l = omega (arith, ap (λ (o : Outcome). o .built .place) e)
+
+  pub left-is : (words : List ℕ) (a : ℕ) → words ≡ flatOf (r .unit) → a ≡ answer (r .refusal) (r .place) → left a words (lent h g aux) ≡ leftBy o
+  left-is words a f i = ap₂ (λ (b : ℕ) (w : List ℕ). left b w (lent h g aux)) i f ∙ ap leftBy e
+
+pub build-left : (n degree cells : ℕ) (vs : List ℕ) (t : Tables) → leftBy (buildChosen n degree cells vs t) ≡ buildCall n degree cells vs t
+unfolding buildCall
+build-left n degree cells vs t = refl
+
+pub given-left : (n p n1 cells : ℕ) (variables : List ℕ) (given : List Variable) (vs : List ℕ) (t : Tables) → given ≡ map variableAt variables
+    → leftBy (buildGiven n given p n1 cells vs t) ≡ givenCall n p n1 cells variables vs t
+unfolding givenCall
+given-left n p n1 cells variables given vs t e = ap (λ (l : List Variable). leftBy (buildGiven n l p n1 cells vs t)) e
+
+-- ---- lookup and recovery
+
+module _ (words : List ℕ) (t : Tables) (x : ℕ) where
+  abbrev foundBy : Bool → Found
+  foundBy b = cond b (lookupOf (unitAt words) t x) (notFound 14)
+
+  abbrev recoveredBy : Bool → Recovered
+  recoveredBy b = cond b (recoverOf (unitAt words) t x) (notRecovered 14)
+
+  pub found-unread : allInRange (variableWords words) ≡ false → 14 ≡ lookupCall words t x
+  unfolding lookupCall foundIn
+  found-unread e = sym (ap (λ (b : Bool). answer (foundBy b .refusal) (foundBy b .index)) e)
+
+  pub found-read : (u : Igu) (f : Found) (a : ℕ) → allInRange (variableWords words) ≡ true → u ≡ unitAt words → f ≡ lookupOf u t x → a ≡ answer (f .refusal) (f .index)
+      → a ≡ lookupCall words t x
+  unfolding lookupCall foundIn
+  found-read u f a e v l i =
+      let same : f ≡ foundBy (allInRange (variableWords words)) = l ∙ ap (λ (u : Igu). lookupOf u t x) v ∙ sym (ap foundBy e) in
+      i ∙ ap (λ (f : Found). answer (f .refusal) (f .index)) same
+
+  pub recovered-unread : allInRange (variableWords words) ≡ false → notRecovered 14 ≡ recoveredIn words t x
+  unfolding recoveredIn
+  recovered-unread e = sym (ap recoveredBy e)
+
+  pub recovered-read : (u : Igu) (r : Recovered) → allInRange (variableWords words) ≡ true → u ≡ unitAt words → r ≡ recoverOf u t x → r ≡ recoveredIn words t x
+  unfolding recoveredIn
+  recovered-read u r e v l = l ∙ ap (λ (u : Igu). recoverOf u t x) v ∙ sym (ap recoveredBy e)
+
+pub index-fits : (u : Igu) (t : Tables) (x : ℕ) (f : Found) → f ≡ lookupOf u t x → f .index < 65536
+index-fits u t x f e = omega (arith, found-index u t x, ap (λ (f : Found). f .index) e)

@@ -1,0 +1,4 @@
+pub mod Words
+pub mod Twos
+pub mod Records
+pub mod Answers

@@ -1,0 +1,36 @@
+-- The record as the code reads it and writes it. Assumes nothing.
+use Prim.Native.Nat.{ℕ}
+use mathlib.Core.Path.{_≡_, ap₂}
+use mathlib.Core.List.{List, _∷_, _++_, map}
+use lib.IntN.{ℤ}
+use lib.ListN.{getD, replicate}
+use mir.Syntax.{w64}
+use mir.Val.{toZ, ofZ}
+use Rattle.vectors.specs.declared.Variable.{Variable}
+use Rattle.unit.specs.declared.Unit.{Unit as Igu}
+use Rattle.bridge.specs.Flat.{variableWord, variableAt, variableWords, spareWords, flatOf, unitAt}
+
+abbrev numbered : List ℕ → ℤ → List Variable → Igu
+numbered words excess variables =
+    record {
+      n = getD words 0 0;
+      p = getD words 1 0;
+      n1 = getD words 2 0;
+      k = getD words 3 0;
+      cells = getD words 4 0;
+      kept = getD words 5 0;
+      tries = getD words 6 0;
+      excess = excess;
+      variables = variables;
+    }
+
+pub unit-read : (words : List ℕ) (excess : ℤ) (variables : List Variable) → excess ≡ toZ w64 (getD words 7 0) → variables ≡ map variableAt (variableWords words)
+    → numbered words excess variables ≡ unitAt words
+unfolding unitAt
+unit-read words excess variables e f = ap₂ (numbered words) e f
+
+pub flat-written : (u : Igu) (excess : ℕ) (variables : List ℕ) → excess ≡ ofZ w64 (u .excess) → variables ≡ map variableWord (u .variables)
+    → u .n ∷ u .p ∷ u .n1 ∷ u .k ∷ u .cells ∷ u .kept ∷ u .tries ∷ excess ∷ variables ++ replicate spareWords 0 ≡ flatOf u
+unfolding flatOf
+flat-written u excess variables e f =
+    ap₂ (λ (a : ℕ) (vs : List ℕ). u .n ∷ u .p ∷ u .n1 ∷ u .k ∷ u .cells ∷ u .kept ∷ u .tries ∷ a ∷ vs ++ replicate spareWords 0) e f

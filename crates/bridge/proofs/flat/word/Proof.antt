@@ -1,0 +1,26 @@
+-- `bridge::flat::word` meets its contract. Assumes nothing.
+use borrow.Author.Needs.{needs}
+use Prim.Native.Nat.{_+_, _*_}
+use native.Mathlib.Omega.{arith}
+use mathlib.Core.Path.{ap₂}
+use Rattle.bridge.proofs.flat.word.Statement.{statement}
+use Rattle.bridge.proofs.flat.word.Tie as tie
+
+kind-word-requires : tie.Need-kind-word-requires
+kind-word-requires c κs = search needs
+
+part-word-requires : tie.Need-part-word-requires
+part-word-requires c κs = search needs
+
+mul-result : tie.Need-mul-result
+mul-result c = omega (arith, c .part-word .ensures .1)
+
+add-result : tie.Need-add-result
+add-result c = omega (arith, c .before .kind-word .ensures .1, c .part-word .ensures .1)
+
+returns : tie.Need-returns
+returns c = ap₂ (λ a b. a + 65536 * b) (c .before .kind-word .ensures .0) (c .part-word .ensures .0)
+
+pub word-spec : {M : Type 1} → statement M
+word-spec =
+    tie.close (tie.spec kind-word-requires part-word-requires mul-result add-result returns)

@@ -1,0 +1,45 @@
+-- `bridge::igu_build_given` meets its contract. Assumes nothing.
+use native.Mathlib.Omega.{arith}
+use mathlib.Core.Path.{_∙_}
+use Rattle.unit.proofs.Places.{given-place}
+use Rattle.bridge.proofs.Answers.{place-fits, left-is, given-left}
+use borrow.Author.Needs.{needs}
+use Rattle.bridge.proofs.igu_build_given.Statement.{statement}
+use Rattle.bridge.proofs.igu_build_given.Tie as tie
+
+variables-requires : tie.Need-variables-requires
+variables-requires c κs = search needs
+
+build-given-requires : tie.Need-build-given-requires
+build-given-requires c κs = search needs
+
+words-requires : tie.Need-words-requires
+words-requires c κs = search needs
+
+answer-requires : tie.Need-answer-requires
+answer-requires c κs = place-fits _ _ _ _ _ (c .before .before .before .before .before .before .before .before .build-given .ensures) (given-place _ _ _ _ _ _ _ (search needs))
+
+same-length : tie.Need-same-length
+same-length c = search needs
+
+same-length-2 : tie.Need-same-length-2
+same-length-2 c = search needs
+
+same-length-3 : tie.Need-same-length-3
+same-length-3 c = search needs
+
+returns : tie.Need-returns
+returns c = left-is _ _ _ _ _ (c .before .before .before .before .before .before .before .before .before .build-given .ensures) _ _ (c .before .words .ensures) (c .answer .ensures) ∙ given-left _ _ _ _ _ _ _ _ (c .before .before .before .before .before .before .before .before .before .before .before .before .before .variables .ensures)
+
+pub igu-build-given-spec : {M : Type 1} → statement M
+igu-build-given-spec =
+    tie.close
+    (tie.spec
+    variables-requires
+    build-given-requires
+    words-requires
+    answer-requires
+    same-length
+    same-length-2
+    same-length-3
+    returns)

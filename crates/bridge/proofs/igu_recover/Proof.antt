@@ -1,0 +1,37 @@
+-- `bridge::igu_recover` meets its contract. Assumes nothing.
+use mathlib.Core.Path.{sym, ap, _∙_}
+use mathlib.Core.List.{_∷_, []}
+use borrow.Author.Tests.{not-true, not-false}
+use Rattle.unit.specs.declared.Recovered.{Recovered}
+use Rattle.bridge.proofs.Answers.{recovered-unread, recovered-read}
+use borrow.Author.Needs.{needs}
+use Rattle.bridge.proofs.igu_recover.Statement.{statement}
+use Rattle.bridge.proofs.igu_recover.Tie as tie
+
+readable-requires : tie.Need-readable-requires
+readable-requires c κs = search needs
+
+returns : tie.Need-returns
+returns c =
+    let e = recovered-unread _ _ _ (sym (c .before .before .readable .ensures) ∙ not-true _ (c .before .if1 .taken)) in
+    (ap (λ (r : Recovered). r .refusal) e, ap (λ (r : Recovered). r .vector ∷ []) e)
+
+unit-requires : tie.Need-unit-requires
+unit-requires c κs = search needs
+
+recover-requires : tie.Need-recover-requires
+recover-requires c κs = search needs
+
+cast-result : tie.Need-cast-result
+cast-result c = search needs
+
+returns-2 : tie.Need-returns-2
+returns-2 c =
+    let read = sym (c .before .before .before .before .before .readable .ensures) ∙ not-false _ (c .before .before .before .before .if1 .left) in
+    let e = recovered-read _ _ _ _ _ read (c .before .before .before .unit .ensures) (c .before .before .recover .ensures) in
+    (ap (λ (r : Recovered). r .refusal) e, ap (λ (r : Recovered). r .vector ∷ []) e)
+
+pub igu-recover-spec : {M : Type 1} → statement M
+igu-recover-spec =
+    tie.close
+    (tie.spec readable-requires returns unit-requires recover-requires cast-result returns-2)

@@ -1,0 +1,48 @@
+-- The four calls of the boundary, over the definitions of the unit.
+use Prim.Native.Nat.{ℕ, _+_, _*_}
+use mathlib.Core.Bool.{cond}
+use mathlib.Core.List.{List, map}
+use Rattle.unit.specs.declared.Found.{Found}
+use Rattle.unit.specs.declared.Recovered.{Recovered}
+use Rattle.unit.specs.Build.{Tables, Outcome, buildChosen, buildGiven}
+use Rattle.unit.specs.Lookup.{notFound, lookupOf}
+use Rattle.unit.specs.Recover.{notRecovered, recoverOf}
+use Rattle.bridge.specs.Flat.{variableAt, flatOf, unitAt, variableWords, allInRange}
+
+-- "refusal + 256 * place", "refusal + 256 * index"
+abbrev pub answer : ℕ → ℕ → ℕ
+answer refusal number = refusal + 256 * number
+
+-- what a build leaves: its answer, the record and every word of H, G and AUX
+pub record Left : Type 0 where
+  pub answer : ℕ
+  pub words : List ℕ
+  pub tables : Tables
+
+abbrev pub left : ℕ → List ℕ → Tables → Left
+left r words t = record { answer = r; words = words; tables = t }
+
+abbrev pub leftBy : Outcome → Left
+leftBy o = left (answer (o .built .refusal) (o .built .place)) (flatOf (o .built .unit)) (o .tables)
+
+unfoldable pub buildCall : ℕ → ℕ → ℕ → List ℕ → Tables → Left
+unfolding buildChosen flatOf
+buildCall n degree cells vs t = leftBy (buildChosen n degree cells vs t)
+
+unfoldable pub givenCall : ℕ → ℕ → ℕ → ℕ → List ℕ → List ℕ → Tables → Left
+unfolding buildGiven variableAt flatOf
+givenCall n p n1 cells variables vs t = leftBy (buildGiven n (map variableAt variables) p n1 cells vs t)
+
+-- "In lookup and recovery a variable word above 2^17 - 1, any of the 24, is refusal 14."
+unfoldable pub foundIn : List ℕ → Tables → ℕ → Found
+unfolding allInRange unitAt lookupOf
+foundIn words t x = cond (allInRange (variableWords words)) (lookupOf (unitAt words) t x) (notFound 14)
+
+unfoldable pub recoveredIn : List ℕ → Tables → ℕ → Recovered
+unfolding allInRange unitAt recoverOf
+recoveredIn words t i = cond (allInRange (variableWords words)) (recoverOf (unitAt words) t i) (notRecovered 14)
+
+-- "lookup returns refusal + 256 * index"
+unfoldable pub lookupCall : List ℕ → Tables → ℕ → ℕ
+unfolding foundIn
+lookupCall words t x = let f = foundIn words t x in answer (f .refusal) (f .index)

@@ -1,0 +1,188 @@
+// The flat record of 40 words: a unit written to it, and read from it.
+ghost use mathlib.Core.Path.{_≡_};
+ghost use mathlib.Core.List.{map};
+ghost use Prim.Native.Nat.{_≤_, _<_, _/_, _%_};
+ghost use lib.ListN.{length};
+ghost use mir.Syntax.{w64};
+ghost use mir.Val.{toZ, ofZ};
+ghost use Rattle.unit.specs.Record.{blankVariable};
+ghost use Rattle.bridge.specs.Flat as spec;
+ghost use Rattle.bridge.specs.Calls as calls;
+use unit::Unit;
+use vectors::Kind;
+use vectors::Part;
+use vectors::Variable;
+
+fn blank() -> Variable
+    ensures { λ r. ⌜ r ≡ blankVariable ⌝ }
+{
+    Variable {
+        kind: Kind::One(0),
+        part: Part::Row,
+    }
+}
+
+fn kind_word(kind: Kind) -> u64
+    ensures { λ r. ⌜ (r ≡ spec.kindWord kind) × (r < 65536) ⌝ }
+{
+    match kind {
+        Kind::One(i) => i as u64,
+        Kind::Two(i, j) => i as u64 + 256 * (j as u64),
+    }
+}
+
+fn part_word(part: Part) -> u64
+    ensures { λ r. ⌜ (r ≡ spec.partWord part) × (r < 2) ⌝ }
+{
+    match part {
+        Part::Row => 0,
+        Part::Column => 1,
+    }
+}
+
+fn word(variable: Variable) -> u64
+    ensures { λ r. ⌜ r ≡ spec.variableWord variable ⌝ }
+{
+    let kind = variable.kind;
+    let part = variable.part;
+    kind_word(kind) + 65536 * part_word(part)
+}
+
+fn kind_at(i: u8, j: u8) -> Kind
+    ensures { λ r. ⌜ r ≡ spec.kindAt i j ⌝ }
+{
+    if j == 0 {
+        Kind::One(i)
+    } else {
+        Kind::Two(i, j)
+    }
+}
+
+fn part_at(mark: u64) -> Part
+    ensures { λ r. ⌜ r ≡ spec.partAt mark ⌝ }
+{
+    if mark == 0 { Part::Row } else { Part::Column }
+}
+
+fn variable_at(word: u64) -> Variable
+    ensures { λ r. ⌜ r ≡ spec.variableAt word ⌝ }
+{
+    if 131071 < word {
+        return blank();
+    }
+    let kind = kind_at((word % 256) as u8, (word / 256 % 256) as u8);
+    let part = part_at(word / 65536);
+    Variable { kind, part }
+}
+
+// The variables of 24 words.
+pub(crate) fn variables(words: &[u64]) -> [Variable; 24]
+    requires { ⌜ length (now words) ≡ 24 ⌝ }
+    ensures { λ r. ⌜ r ≡ map spec.variableAt (now (words .entry)) ⌝ }
+{
+    let mut v = [blank(); 24];
+    let mut i = 0;
+    while i < 24 {
+        v[i] = variable_at(words[i]);
+        i += 1;
+    }
+    v
+}
+
+// Whether no word is above 2^17 - 1.
+fn all_in_range(words: &[u64]) -> bool
+    ensures { λ r. ⌜ r ≡ spec.allInRange (now (words .entry)) ⌝ }
+{
+    let mut bits: u64 = 0;
+    let mut i = 0;
+    while i < words.len() {
+        bits |= words[i];
+        i += 1;
+    }
+    bits < 131072
+}
+
+// Whether the variable words of a record are in range.
+pub(crate) fn readable(words: &[u64; 40]) -> bool
+    ensures { λ r. ⌜ r ≡ spec.allInRange (spec.variableWords (now (words .entry))) ⌝ }
+{
+    let all = &words[..];
+    all_in_range(&all[8..32])
+}
+
+// A signed number in two's complement, and back.
+fn twos(z: i64) -> u64
+    ensures { λ r. ⌜ r ≡ ofZ w64 z ⌝ }
+{
+    if z < 0 {
+        return !((-1 - z) as u64);
+    }
+    z as u64
+}
+
+fn signed(w: u64) -> i64
+    ensures { λ r. ⌜ r ≡ toZ w64 w ⌝ }
+{
+    if w < 0x8000000000000000 {
+        return w as i64;
+    }
+    -1 - ((!w) as i64)
+}
+
+// The words of the variables.
+fn write_variables(variables: [Variable; 24], words: &mut [u64])
+    requires { ⌜ length (now words) ≡ 24 ⌝ }
+    ensures { λ _. ⌜ now (words .exit) ≡ map spec.variableWord variables ⌝ }
+{
+    let mut i = 0;
+    while i < 24 {
+        let v = variables[i];
+        words[i] = word(v);
+        i += 1;
+    }
+}
+
+// The record of a unit.
+pub(crate) fn words(unit: Unit) -> [u64; 40]
+    ensures { λ r. ⌜ r ≡ spec.flatOf unit ⌝ }
+{
+    let mut w = [0u64; 40];
+    w[0] = unit.n as u64;
+    w[1] = unit.p as u64;
+    w[2] = unit.n1 as u64;
+    w[3] = unit.k as u64;
+    w[4] = unit.cells as u64;
+    w[5] = unit.kept;
+    w[6] = unit.tries;
+    w[7] = twos(unit.excess);
+    let variables = unit.variables;
+    write_variables(variables, &mut w[8..32]);
+    w
+}
+
+// The unit of a record.
+pub(crate) fn unit(words: &[u64; 40]) -> Unit
+    ensures { λ r. ⌜ r ≡ spec.unitAt (now (words .entry)) ⌝ }
+{
+    let all = &words[..];
+    let variables = variables(&all[8..32]);
+    Unit {
+        n: words[0] as usize,
+        p: words[1] as usize,
+        n1: words[2] as usize,
+        k: words[3] as usize,
+        cells: words[4] as usize,
+        kept: words[5],
+        tries: words[6],
+        excess: signed(words[7]),
+        variables,
+    }
+}
+
+// A refusal and a number in one word.
+pub(crate) fn answer(refusal: u8, number: usize) -> u64
+    requires { ⌜ number < 65536 ⌝ }
+    ensures { λ r. ⌜ r ≡ calls.answer refusal number ⌝ }
+{
+    refusal as u64 + 256 * (number as u64)
+}

@@ -1,0 +1,86 @@
+// The unit for C and Rust: four functions over slices and a flat record of 40 words.
+ghost use mathlib.Core.Path.{_≡_};
+ghost use mathlib.Core.List.{_∷_, []};
+ghost use Rattle.unit.specs.Build.{lent};
+ghost use Rattle.bridge.specs.Calls.{left, buildCall, givenCall, lookupCall, recoveredIn};
+
+mod flat;
+
+// The build that chooses its variables. The answer is the refusal and 256 times the place.
+#[no_mangle]
+pub extern "C" fn igu_build(
+    n: usize,
+    degree: usize,
+    cells: usize,
+    vectors: &[u64],
+    h: &mut [u16],
+    g: &mut [u16],
+    aux: &mut [u64],
+    words: &mut [u64; 40],
+) -> u64
+    ensures { λ r. ⌜ left r (now (words .exit)) (lent (now (h .exit)) (now (g .exit)) (now (aux .exit)))
+        ≡ buildCall n degree cells (now (vectors .entry)) (lent (now (h .entry)) (now (g .entry)) (now (aux .entry))) ⌝ }
+{
+    let built = unit::build_chosen(n, degree, cells, vectors, h, g, aux);
+    let unit = built.unit;
+    *words = flat::words(unit);
+    flat::answer(built.refusal, built.place)
+}
+
+// The build whose variables and n1 the caller states.
+#[no_mangle]
+pub extern "C" fn igu_build_given(
+    n: usize,
+    p: usize,
+    n1: usize,
+    cells: usize,
+    variables: &[u64; 24],
+    vectors: &[u64],
+    h: &mut [u16],
+    g: &mut [u16],
+    aux: &mut [u64],
+    words: &mut [u64; 40],
+) -> u64
+    ensures { λ r. ⌜ left r (now (words .exit)) (lent (now (h .exit)) (now (g .exit)) (now (aux .exit)))
+        ≡ givenCall n p n1 cells (now (variables .entry)) (now (vectors .entry)) (lent (now (h .entry)) (now (g .entry)) (now (aux .entry))) ⌝ }
+{
+    let given = flat::variables(variables);
+    let built = unit::build_given(n, given, p, n1, cells, vectors, h, g, aux);
+    let unit = built.unit;
+    *words = flat::words(unit);
+    flat::answer(built.refusal, built.place)
+}
+
+// The refusal and 256 times the number of the registered vector x, or 0.
+#[no_mangle]
+pub extern "C" fn igu_lookup(words: &[u64; 40], h: &[u16], g: &[u16], aux: &[u64], x: u64) -> u64
+    ensures { λ r. ⌜ r ≡ lookupCall (now (words .entry)) (lent (now (h .entry)) (now (g .entry)) (now (aux .entry))) x ⌝ }
+{
+    if !flat::readable(words) {
+        return 14;
+    }
+    let found = unit::lookup(flat::unit(words), h, g, aux, x);
+    flat::answer(found.refusal, found.index)
+}
+
+// The refusal; the registered vector with the number i goes to vector.
+#[no_mangle]
+pub extern "C" fn igu_recover(
+    words: &[u64; 40],
+    h: &[u16],
+    g: &[u16],
+    aux: &[u64],
+    i: usize,
+    vector: &mut [u64; 1],
+) -> u64
+    ensures { λ r. ⌜ r ≡ recoveredIn (now (words .entry)) (lent (now (h .entry)) (now (g .entry)) (now (aux .entry))) i .refusal ⌝ }
+    ensures { λ _. ⌜ now (vector .exit) ≡ recoveredIn (now (words .entry)) (lent (now (h .entry)) (now (g .entry)) (now (aux .entry))) i .vector ∷ [] ⌝ }
+{
+    if !flat::readable(words) {
+        *vector = [0];
+        return 14;
+    }
+    let recovered = unit::recover(flat::unit(words), h, g, aux, i);
+    *vector = [recovered.vector];
+    recovered.refusal as u64
+}

@@ -1,0 +1,62 @@
+/* The index generation unit for C: a list of k different vectors of n bits, numbered 1 to k, turned into three small tables
+ * H, G and AUX, so that a key gives its number, or 0, with one addition.
+ *
+ * The functions are proved, in crate bridge; docs/PROMISES.md names the definition that each one equals. The refusals 1 to 15 are
+ * those of README.md. None has a condition on numbers: every call with the memory below ends, and gives an answer or a refusal.
+ *
+ * What the caller owes: every pointer is aligned and not null, also with length 0, and is good for as many elements as its length says
+ * (or 40, 24 or 1, as the declaration says); memory that a call writes overlaps no other memory of that call. */
+#ifndef IGU_H
+#define IGU_H
+
+#include <stddef.h>
+#include <stdint.h>
+
+#ifdef __cplusplus
+extern "C" {
+#endif
+
+/* The record of a unit, which the builds write and the other two read:
+ *   [0] n          inputs, 1 to 64
+ *   [1] p          variables
+ *   [2] n1         row variables, the first n1 of the p
+ *   [3] k          vectors, 1 to 1,023
+ *   [4] L          cells of G, 1 to 8,192
+ *   [5] kept       the kept inputs as a mask, bit i - 1 for x_i
+ *   [6] tries      displacements tried
+ *   [7] excess     p minus the floor, in two's complement
+ *   [8] to [31]    the variables, i + 256 * j + 65536 * part; j is 0 for the single input x_i, part is 0 for row and 1 for column;
+ *                  0 where unused
+ *   [32] to [39]   written as 0, never read */
+#define IGU_RECORD_WORDS 40
+#define IGU_VARIABLES 24
+
+/* Chooses variables of degree 1 (x_i) or 2 (also x_i XOR x_j) that tell the k vectors apart, and builds the unit with G of L cells.
+ * Needs h_len >= 2^n1 (4,096 always suffices), g_len >= L and aux_len >= k + 1.
+ * Returns refusal + 256 * place. The result 0 is acceptance: record holds the unit, H[0..2^n1), G[0..L) and AUX[0..k] hold its tables.
+ * On any refusal record is all 0. Refusals 1 to 12 leave the tables as they were, 13 leaves those ranges 0. No other word is written. */
+uint64_t igu_build(size_t n, size_t degree, size_t L, const uint64_t *vectors, size_t k, uint16_t *h, size_t h_len, uint16_t *g,
+                   size_t g_len, uint64_t *aux, size_t aux_len, uint64_t record[IGU_RECORD_WORDS]);
+
+/* The same with the caller's variables, p of them, the first n1 for the rows. A variable's word is as in the record; its part is not
+ * read. A word above 2^17 - 1 is a faulty variable, refusal 8. Words past the first p do not matter. */
+uint64_t igu_build_given(size_t n, size_t p, size_t n1, size_t L, const uint64_t variables[IGU_VARIABLES], const uint64_t *vectors,
+                         size_t k, uint16_t *h, size_t h_len, uint16_t *g, size_t g_len, uint64_t *aux, size_t aux_len,
+                         uint64_t record[IGU_RECORD_WORDS]);
+
+/* Returns refusal + 256 * index. With record and tables as a build left them, and x of n bits: the index i, 1 to k, exactly when x is
+ * vector i in every bit, else 0. With any other record and tables: the answer of document 01's rule, or refusal 14; 14 too where any
+ * of the 24 variable words is above 2^17 - 1. Writes nothing. */
+uint64_t igu_lookup(const uint64_t record[IGU_RECORD_WORDS], const uint16_t *h, size_t h_len, const uint16_t *g, size_t g_len,
+                    const uint64_t *aux, size_t aux_len, uint64_t x);
+
+/* Returns the refusal, and writes the vector with number i, or 0 beside a refusal. With record and tables as a build left them, and i
+ * of 1 to k, that is vector i of the list. Writes nothing else. */
+uint64_t igu_recover(const uint64_t record[IGU_RECORD_WORDS], const uint16_t *h, size_t h_len, const uint16_t *g, size_t g_len,
+                     const uint64_t *aux, size_t aux_len, size_t i, uint64_t vector[1]);
+
+#ifdef __cplusplus
+}
+#endif
+
+#endif
