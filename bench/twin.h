@@ -1,0 +1,25 @@
+/* The index generation unit written a second time, from document 01 alone, for comparing and timing. Parameters, memory, results and
+ * the record are those of igu.h; only the prefix differs. */
+#ifndef TWIN_H
+#define TWIN_H
+
+#include <stddef.h>
+#include <stdint.h>
+
+#define TWIN_RECORD_WORDS 40
+#define TWIN_VARIABLES 24
+
+uint64_t twin_build(size_t n, size_t degree, size_t L, const uint64_t *vectors, size_t k, uint16_t *h, size_t h_len, uint16_t *g,
+                    size_t g_len, uint64_t *aux, size_t aux_len, uint64_t record[TWIN_RECORD_WORDS]);
+
+uint64_t twin_build_given(size_t n, size_t p, size_t n1, size_t L, const uint64_t variables[TWIN_VARIABLES], const uint64_t *vectors,
+                          size_t k, uint16_t *h, size_t h_len, uint16_t *g, size_t g_len, uint64_t *aux, size_t aux_len,
+                          uint64_t record[TWIN_RECORD_WORDS]);
+
+uint64_t twin_lookup(const uint64_t record[TWIN_RECORD_WORDS], const uint16_t *h, size_t h_len, const uint16_t *g, size_t g_len,
+                     const uint64_t *aux, size_t aux_len, uint64_t x);
+
+uint64_t twin_recover(const uint64_t record[TWIN_RECORD_WORDS], const uint16_t *h, size_t h_len, const uint16_t *g, size_t g_len,
+                      const uint64_t *aux, size_t aux_len, size_t i, uint64_t vector[1]);
+
+#endif
