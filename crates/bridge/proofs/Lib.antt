@@ -2,3 +2,5 @@ pub mod Words
 pub mod Twos
 pub mod Records
 pub mod Answers
+pub mod Carried
+pub mod Boundary

@@ -8,7 +8,7 @@ use lib.IntN.{ℤ, pos, negsuc, natAbs, _-ℤ_}
 use mir.Facts.{toZ-pos, toZ-ofZ}
 use mir.Syntax.{w64}
 use mir.Val.{SFits, sel, toZ, ofZ}
-use Rattle.lists.proofs.Signs.{negative, test-is, above}
+use Rattle.lists.proofs.Signs.{negative, test-is}
 
 -- ---- a number's bits
 

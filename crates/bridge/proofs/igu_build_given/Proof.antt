@@ -1,5 +1,4 @@
 -- `bridge::igu_build_given` meets its contract. Assumes nothing.
-use native.Mathlib.Omega.{arith}
 use mathlib.Core.Path.{_∙_}
 use Rattle.unit.proofs.Places.{given-place}
 use Rattle.bridge.proofs.Answers.{place-fits, left-is, given-left}

@@ -1,8 +1,6 @@
 -- `bridge::igu_lookup` meets its contract. Assumes nothing.
-use native.Mathlib.Omega.{arith}
-use mathlib.Core.Path.{_≡_, refl, sym, ap, _∙_}
+use mathlib.Core.Path.{sym, _∙_}
 use borrow.Author.Tests.{not-true, not-false}
-use Rattle.unit.proofs.Places.{found-index}
 use Rattle.bridge.proofs.Answers.{found-unread, found-read, index-fits}
 use borrow.Author.Needs.{needs}
 use Rattle.bridge.proofs.igu_lookup.Statement.{statement}

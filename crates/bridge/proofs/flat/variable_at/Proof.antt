@@ -1,7 +1,7 @@
 -- `bridge::flat::variable_at` meets its contract. Assumes nothing.
 use borrow.Author.Needs.{needs}
 use native.Mathlib.Omega.{arith}
-use mathlib.Core.Path.{_≡_, sym, ap₂, _∙_}
+use mathlib.Core.Path.{ap₂, _∙_}
 use Rattle.bridge.proofs.Words.{variable-in, variable-out}
 use Rattle.bridge.proofs.flat.variable_at.Statement.{statement}
 use Rattle.bridge.proofs.flat.variable_at.Tie as tie
