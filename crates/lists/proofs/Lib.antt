@@ -8,5 +8,8 @@ pub mod Repeats
 pub mod NonePass
 pub mod InPlace
 pub mod Mapped
+pub mod Storing
+pub mod Filled
+pub mod Walk
 pub mod Equals
 pub mod Signs

@@ -21,9 +21,9 @@ use Rattle.vectors.proofs.Choice.Grouped.{Grouped, grouped-none, grouped-more, 
 use Rattle.vectors.proofs.Choice.Squares.{squares, squareOf, squares-map, squares-next}
 use Rattle.unit.specs.declared.groups.Groups.{Groups}
 use Rattle.unit.specs.Bounds.{maxInputs, maxVariables}
-use Rattle.unit.specs.Inner.Masks.{valueBy}
 use Rattle.unit.specs.Inner.Groups.{cut, Shape, GroupsAre, groupsOf, sizesOf, orderOf, valueAt}
-use Rattle.unit.specs.Inner.Choice.{scoreOf, ChosenIs}
+use Rattle.sheet.specs.Best.{scoreOf}
+use Rattle.unit.specs.Inner.Choice.{ChosenIs}
 use Rattle.unit.proofs.GroupsCut.{cut-map, cut-length}
 
 -- no group is left exactly when the count is 0
@@ -40,13 +40,12 @@ module _ (vs : List ℕ) (fits : (i : ℕ) → getD vs i 0 < 2 ^ maxInputs) wher
   value-at : (c : Kind) → valueAt vs (maskOf c % 2 ^ maxInputs) ≡ (λ i. valueOf (getD vs i 0) c)
   value-at c = fun-ext (λ i. value-word maxInputs (getD vs i 0) c (fits i))
 
-  pub score-square : (sizes order : List ℕ) → scoreOf sizes (map (λ i. getD vs i 0) order) ≡ squareOf vs (cut sizes order)
-  score-square sizes order =
-      fun-ext
-      (λ c.
-      ap (squares (valueBy (maskOf c % 2 ^ maxInputs))) (cut-map (λ i. getD vs i 0) sizes order)
-      ∙ squares-map (valueBy (maskOf c % 2 ^ maxInputs)) (λ i. getD vs i 0) (cut sizes order)
-      ∙ ap (λ b. squares b (cut sizes order)) (value-at c))
+-- the words' score is that of the indices' squares
+score-square : (vs sizes order : List ℕ) → scoreOf sizes (map (λ i. getD vs i 0) order) ≡ squareOf vs (cut sizes order)
+score-square vs sizes order =
+    fun-ext
+    (λ c.
+    ap (squares (λ x. valueOf x c)) (cut-map (λ i. getD vs i 0) sizes order) ∙ squares-map (λ x. valueOf x c) (λ i. getD vs i 0) (cut sizes order))
 
 -- ---- a turn
 
@@ -77,7 +76,7 @@ module _ {vs : List ℕ} {cs : List Kind} {g : Groups} {variables : List Variabl
       → GroupsAre (length vs) (refined (valueAt vs m) (groupsOf g)) g′ → Stage vs cs g′ (set variables p (part c)) (p + 1)
   stage-more part words c m g′ h n fits pc w b e a =
       let next : c ≡ nextOf cs vs (takenIn variables p) =
-      b ∙ ap (λ ws. bestOf (scoreOf (sizesOf g) ws) cs) w ∙ ap (λ f. bestOf f cs) (score-square vs fits (sizesOf g) (orderOf g)) ∙ squares-next (s .grouped) cs in
+      b ∙ ap (λ ws. bestOf (scoreOf (sizesOf g) ws) cs) w ∙ ap (λ f. bestOf f cs) (score-square vs (sizesOf g) (orderOf g)) ∙ squares-next (s .grouped) cs in
       let more : takenIn (set variables p (part c)) (p + 1) ≡ takenIn variables p ++ (c ∷ []) =
       rw (add-one p, take-suc-set variables p (part c) (omega (arith, s .size)))
       (map-append (λ v. v .kind) (take p variables) (part c ∷ []) ∙ ap (λ k. takenIn variables p ++ (k ∷ [])) pc) in

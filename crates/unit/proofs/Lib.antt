@@ -13,8 +13,7 @@ pub mod GroupsSplit
 pub mod GroupsHeld
 pub mod GroupsRepeat
 pub mod GroupsMasks
-pub mod ChoiceSquares
-pub mod ChoiceBest
+pub mod ChoiceGather
 pub mod ChoiceStage
 pub mod Values
 pub mod Lookups

@@ -1,23 +1,15 @@
 -- Groups of vectors as two lists: the members, group after group, and how long each group is.
 use Prim.Native.Nat.{ℕ, _+_, _≤_, _<_}
 use mathlib.Core.Path.{_≡_}
-use mathlib.Core.List.{List, [], _∷_, _++_, map, flatten}
-use lib.ListN.{length, getD, take, drop}
+use mathlib.Core.List.{List, [], _++_, map, flatten}
+use lib.ListN.{length, getD, take}
+unfoldable pub use Rattle.lists.specs.Cut.{cut, total}
 use Rattle.lists.proofs.Members.{All}
 use Rattle.vectors.proofs.Choice.Groups.{pushed, members}
 use Rattle.unit.specs.declared.groups.Groups.{Groups}
 use Rattle.unit.specs.declared.groups.Extent.{Extent}
 use Rattle.unit.specs.Bounds.{maxVectors}
 use Rattle.unit.specs.Inner.Masks.{valueBy}
-
--- the list cut into groups of those sizes
-unfoldable pub cut : List ℕ → List ℕ → List (List ℕ)
-cut [] l = []
-cut (s ∷ ss) l = take s l ∷ cut ss (drop s l)
-
-unfoldable pub total : List ℕ → ℕ
-total [] = 0
-total (s ∷ ss) = s + total ss
 
 -- indices below k in groups of two members or more
 pub record Cuts (k : ℕ) (sizes order : List ℕ) : Type 0 where

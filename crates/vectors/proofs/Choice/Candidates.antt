@@ -34,13 +34,13 @@ candidates-some n degree h = in-pos (One 1) (candidates n degree) (candidate-one
 -- ---- none is faulty
 
 module _ (n : ℕ) where
-  abbrev Sound : Kind → Type 0
+  abbrev pub Sound : Kind → Type 0
   Sound k = faulty n k ≡ false
 
-  one-sound : (i : ℕ) → 0 < i → i ≤ n → Sound (One i)
+  pub one-sound : (i : ℕ) → 0 < i → i ≤ n → Sound (One i)
   one-sound i h k = rw (ne-eqb i 0 (λ e. omega arith), le-ltb n i k)
 
-  two-sound : (i j : ℕ) → 0 < i → i < j → j ≤ n → Sound (Two i j)
+  pub two-sound : (i j : ℕ) → 0 < i → i < j → j ≤ n → Sound (Two i j)
   two-sound i j h l k = rw (ne-eqb i 0 (λ e. omega arith), lt-leb j i l, le-ltb n j k)
 
   ones-sound : (d i : ℕ) → 0 < i → i + d ≤ suc n → All Sound (ones d i)

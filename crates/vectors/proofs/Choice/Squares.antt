@@ -5,10 +5,11 @@ use native.Mathlib.Nat.{zero-add, suc-mul, mul-suc}
 use native.Mathlib.Numerals.{one-add}
 use mathlib.Core.Path.{_≡_, refl, ap, sym, _∙_, fun-ext}
 use mathlib.Core.Bool.{Bool, true, false, cond}
-use mathlib.Core.List.{List, [], _∷_, map}
+use mathlib.Core.List.{List, [], _∷_, _++_, map}
 use lib.Dec.{eqb, ltb}
-use lib.ListN.{length, getD, length-map}
+use lib.ListN.{length, getD, take, replicate, length-map}
 use borrow.Author.Tests.{ltb-true, ltb-false, lt-ltb, le-ltb}
+use Rattle.lists.proofs.Members.{All}
 use Rattle.vectors.specs.declared.Kind.{Kind}
 use Rattle.vectors.specs.Variable.{valueOf, numberOf}
 use Rattle.vectors.specs.Choice.{count, pairs, leaves, fewest, bestOf, nextOf}
@@ -34,6 +35,23 @@ pub tally-map : (b f : ℕ → ℕ) (g : List ℕ) → tally b (map f g) ≡ tal
 unfolding tally
 tally-map b f [] = refl
 tally-map b f (i ∷ g) = ap (λ n. b (f i) + n) (tally-map b f g)
+
+pub tally-append : (b : ℕ → ℕ) (g h : List ℕ) → tally b (g ++ h) ≡ tally b g + tally b h
+unfolding tally
+tally-append b [] h = sym (zero-add (tally b h))
+tally-append b (i ∷ g) h = omega (arith, tally-append b g h)
+
+-- of zeros, all of them or the first few
+pub tally-none : (b : ℕ → ℕ) → b 0 ≡ 0 → (m : ℕ) → tally b (replicate m 0) ≡ 0
+unfolding tally
+tally-none b e zero = refl
+tally-none b e (suc m) = omega (arith, tally-none b e m)
+
+pub tally-few : (b : ℕ → ℕ) → b 0 ≡ 0 → (n m : ℕ) → tally b (take n (replicate m 0)) ≡ 0
+unfolding tally
+tally-few b e zero m = refl
+tally-few b e (suc n) zero = refl
+tally-few b e (suc n) (suc m) = omega (arith, tally-few b e n m)
 
 -- of groups of entries, and of groups of indices
 pub squares-map : (b f : ℕ → ℕ) (gs : List (List ℕ)) → squares b (map (map f) gs) ≡ squares (λ i. b (f i)) gs
@@ -110,15 +128,29 @@ ltb-scaled a b c d m p q = go (ltb c d) refl
 abbrev pub squareOf : List ℕ → List (List ℕ) → Kind → ℕ
 squareOf vs gs c = squares (λ i. valueOf (getD vs i 0) c) gs
 
-fewest-agree : (f g : Kind → ℕ) → ((c d : Kind) → ltb (f c) (f d) ≡ ltb (g c) (g d)) → (b : Kind) (cs : List Kind) → fewest f b cs ≡ fewest g b cs
-unfolding fewest
-fewest-agree f g same b [] = refl
-fewest-agree f g same b (c ∷ cs) = ap (λ t. fewest f (cond t c b) cs) (same c b) ∙ fewest-agree f g same (cond (ltb (g c) (g b)) c b) cs
+-- two functions that compare the candidates alike choose the same
+module _ (f g : Kind → ℕ) (P : Kind → Type 0) (same : (c d : Kind) → P c → P d → ltb (f c) (f d) ≡ ltb (g c) (g d)) where
+  fewest-agree : (b : Kind) (cs : List Kind) → P b → All P cs → fewest f b cs ≡ fewest g b cs
+  unfolding fewest
+  fewest-agree b [] p a = refl
+  fewest-agree b (c ∷ cs) p a =
+      ap (λ t. fewest f (cond t c b) cs) (same c b (a .0) p) ∙ fewest-agree (cond (ltb (g c) (g b)) c b) cs (either (ltb (g c) (g b))) (a .1)
+    where
+      either : (t : Bool) → P (cond t c b)
+      either true = a .0
+      either false = p
+
+  pub best-agree-on : (cs : List Kind) → All P cs → bestOf f cs ≡ bestOf g cs
+  unfolding bestOf
+  best-agree-on [] a = refl
+  best-agree-on (c ∷ cs) a = fewest-agree c cs (a .0) (a .1)
 
 best-agree : (f g : Kind → ℕ) → ((c d : Kind) → ltb (f c) (f d) ≡ ltb (g c) (g d)) → (cs : List Kind) → bestOf f cs ≡ bestOf g cs
-unfolding bestOf
-best-agree f g same [] = refl
-best-agree f g same (c ∷ cs) = fewest-agree f g same c cs
+best-agree f g same cs = best-agree-on f g (λ c. Unit {0}) (λ c d p q. same c d) cs (any cs)
+  where
+    any : (cs : List Kind) → All (λ c. Unit {0}) cs
+    any [] = tt
+    any (c ∷ cs) = (tt, any cs)
 
 module _ {vs : List ℕ} {taken : List Kind} {gs : List (List ℕ)} (r : Grouped vs taken gs) where
   -- the squares say what a candidate leaves

@@ -3,10 +3,13 @@ use borrow.Author.Needs.{needs}
 use Prim.Native.Nat.{_-_, _≤_}
 use native.Mathlib.Omega.{arith}
 use mathlib.Core.Path.{_≡_, refl, sym, _∙_}
-use lib.ListN.{length}
+use lib.ListN.{length, take}
 use lib.Seq.{length-take-le}
 use Rattle.vectors.specs.Choice.{candidates}
 use Rattle.vectors.specs.declared.Part.the-variants.{Row}
+use Rattle.sheet.proofs.Checking.{Searched}
+use Rattle.sheet.proofs.Answered.{best-is}
+use Rattle.unit.specs.Inner.Groups.{sizesOf}
 use Rattle.unit.specs.Bounds.{maxVariables, maxVectors}
 use Rattle.unit.proofs.ChoiceStage.{Stage, stage-none, stage-more, stage-stop, stage-end}
 use Rattle.unit.proofs.choice.choose.Statement.{statement}
@@ -26,6 +29,17 @@ low l =
 room : (c : tie.After-gather Inv-loop μ-loop) → c .before .before .before .before .before .before .before .before .loop .groups .members ≤ length (c .gather .last .1 .1 .0)
 room c =
     omega (arith, c .gather .kept .1 .1 .0, low (c .before .before .before .before .before .before .before .before), c .before .before .before .before .before .before .before .before .loop .inv .0)
+
+-- the groups are all of the words gathered
+searched : (c : tie.After-gather Inv-loop μ-loop)
+    → let l = c .before .before .before .before .before .before .before .before in
+    Searched (sizesOf (l .loop .groups)) (take (l .loop .groups .members) (c .gather .last .1 .1 .0)) (l .before .before .before .args .n)
+searched c =
+    let l = c .before .before .before .before .before .before .before .before in
+    let s = l .loop .inv .1 .shape in
+    let p = l .before .before .before .pre in
+    let e = length-take-le (l .loop .groups .members) (c .gather .last .1 .1 .0) (room c) in
+    record { some = p .0; inputs = p .1; few = omega (arith, low l, e); sum = s .cuts .sum ∙ length-take-le _ (l .loop .groups .order) (s .room) ∙ sym e }
 
 all-requires : tie.Need-all-requires Inv-loop μ-loop
 all-requires c κs = c .before .pre .2
@@ -53,23 +67,18 @@ gather-requires c κs =
 array-share-prefix-words : tie.Need-array-share-prefix-words Inv-loop μ-loop
 array-share-prefix-words c = room (c .before)
 
-slice-aggregate-best-of : tie.Need-slice-aggregate-best-of Inv-loop μ-loop
-slice-aggregate-best-of c = sym (length-take-le _ _ (room (c .before .before)))
+slice-aggregate-best : tie.Need-slice-aggregate-best Inv-loop μ-loop
+slice-aggregate-best c = sym (length-take-le _ _ (room (c .before .before)))
 
 array-share-prefix-sizes : tie.Need-array-share-prefix-sizes Inv-loop μ-loop
 array-share-prefix-sizes c = search needs
 
-slice-aggregate-best-of-2 : tie.Need-slice-aggregate-best-of-2 Inv-loop μ-loop
-slice-aggregate-best-of-2 c =
+slice-aggregate-best-2 : tie.Need-slice-aggregate-best-2 Inv-loop μ-loop
+slice-aggregate-best-2 c =
     sym (length-take-le _ _ (c .before .before .before .before .before .before .before .before .before .before .before .loop .inv .1 .shape .places))
 
-best-of-requires : tie.Need-best-of-requires Inv-loop μ-loop
-best-of-requires c κs =
-    let l = c .before .before .before .before .before .before .before .before .before .before .before in
-    let s = l .loop .inv .1 .shape in
-    let p = l .before .before .before .pre in
-    let e = length-take-le (l .loop .groups .members) (c .before .before .before .gather .last .1 .1 .0) (room (c .before .before .before)) in
-    (p .0, p .1, record { sum = s .cuts .sum ∙ length-take-le _ (l .loop .groups .order) (s .room) ∙ sym e; few = omega (arith, low l, e) })
+best-requires : tie.Need-best-requires Inv-loop μ-loop
+best-requires c κs = tt
 
 mask-requires : tie.Need-mask-requires Inv-loop μ-loop
 mask-requires c κs = tt
@@ -96,11 +105,11 @@ loop-again c =
     let t = c .before .before .before .before .before .before .before .before .before .before .before .before .before in
     let l = t .before in
     let k = c .before .before .before .before .before .before .gather in
-    let b = c .before .before .best-of in
+    let b = c .before .before .best in
     let o = length-take-le _ (l .loop .groups .order) (l .loop .inv .1 .shape .room) in (
       k .kept .1 .1 .0 ∙ l .loop .inv .0,
       stage-more (l .loop .inv .1) (λ u. record { kind = u; part = Row }) _ (b .result) _ _ (t .loop-test .taken) (c .before .before .before .before .before .before .before .before .before .before .before .if1 .left)
-          (λ i. omega (arith, l .before .before .shared-slice-known .given i)) refl (rw o at (k .ensures)) (b .ensures) (c .before .mask .ensures) (c .refined .ensures),
+          (λ i. omega (arith, l .before .before .shared-slice-known .given i)) refl (rw o at (k .ensures)) (b .ensures ∙ best-is _ _ _ _ (searched (c .before .before .before .before .before .before))) (c .before .mask .ensures) (c .refined .ensures),
     )
 
 returns-2 : tie.Need-returns-2 Inv-loop μ-loop
@@ -120,10 +129,10 @@ choose-spec =
     slice-aggregate-gather-2
     gather-requires
     array-share-prefix-words
-    slice-aggregate-best-of
+    slice-aggregate-best
     array-share-prefix-sizes
-    slice-aggregate-best-of-2
-    best-of-requires
+    slice-aggregate-best-2
+    best-requires
     mask-requires
     refined-requires
     mul-variables

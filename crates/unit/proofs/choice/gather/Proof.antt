@@ -4,7 +4,7 @@ use Prim.Native.Nat.{_-_, _<_}
 use native.Mathlib.Omega.{arith}
 use lib.ListN.{length, getD}
 use Rattle.lists.proofs.Alls.{all-at}
-use Rattle.unit.proofs.ChoiceSquares.{Gathered, gathered-none, gathered-more, gathered-end}
+use Rattle.unit.proofs.ChoiceGather.{Gathered, gathered-none, gathered-more, gathered-end}
 use Rattle.unit.proofs.choice.gather.Statement.{statement}
 use Rattle.unit.proofs.choice.gather.Tie as tie
 

@@ -1,0 +1,15 @@
+pub mod Checking
+pub mod Columns
+pub mod Splits
+pub mod Laid
+pub mod Room
+pub mod Blocks
+pub mod Agree
+pub mod Laying
+pub mod LayingPairs
+pub mod LayingWhole
+pub mod LayingSmall
+pub mod Drawing
+pub mod Judging
+pub mod Searching
+pub mod Answered

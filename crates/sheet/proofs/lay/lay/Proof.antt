@@ -1,0 +1,38 @@
+-- `sheet::lay::lay` meets its contract. Assumes nothing.
+use borrow.Author.Needs.{needs}
+use Prim.Native.Nat.{_*_}
+use mathlib.Core.Path.{sym, ap, _∙_}
+use Rattle.sheet.proofs.Laying.{whole-length, laid-out}
+use Rattle.sheet.proofs.lay.lay.Statement.{statement}
+use Rattle.sheet.proofs.lay.lay.Tie as tie
+
+lay-whole-requires : tie.Need-lay-whole-requires
+lay-whole-requires c κs = search needs
+
+mul-lay-pairs : tie.Need-mul-lay-pairs
+mul-lay-pairs c = search needs
+
+lay-pairs-requires : tie.Need-lay-pairs-requires
+lay-pairs-requires c κs =
+    let w = c .before .before .before .before .before .lay-whole .ensures in
+    (search needs, (w .items-are, ap (λ k. 64 * k) (w .whole-is) ∙ sym (whole-length _)))
+
+same-length : tie.Need-same-length
+same-length c = search needs
+
+same-length-2 : tie.Need-same-length-2
+same-length-2 c = search needs
+
+returns : tie.Need-returns
+returns c = laid-out _ (c .before .before .before .before .before .before .before .before .lay-whole .ensures) (c .before .before .lay-pairs .ensures)
+
+pub lay-spec : {M : Type 1} → statement M
+lay-spec =
+    tie.close
+    (tie.spec
+    lay-whole-requires
+    mul-lay-pairs
+    lay-pairs-requires
+    same-length
+    same-length-2
+    returns)

@@ -1,0 +1,112 @@
+-- `sheet::lay::lay_pairs` meets its contract. Assumes nothing.
+use borrow.Author.Needs.{needs}
+use Prim.Native.Nat.{_+_, _-_, _*_, _≤_}
+use native.Mathlib.Omega.{arith}
+use mathlib.Core.Path.{sym, _∙_}
+use lib.ListN.{length, getD}
+use Rattle.lists.proofs.Filled.{filled-length, filling-length}
+use Rattle.lists.proofs.Walk.{walk-fits}
+use Rattle.sheet.specs.Layout.{maxBlocks}
+use Rattle.sheet.proofs.Laying.{items-room}
+use Rattle.sheet.proofs.LayingSmall.{Adding, adding-none, adding-end, adding-small, adding-part, adding-large}
+use Rattle.sheet.proofs.lay.lay_pairs.Statement.{statement}
+use Rattle.sheet.proofs.lay.lay_pairs.Tie as tie
+
+abbrev Inv-loop : tie.InvT-loop
+Inv-loop words sizes items₀ at w₀ from₀ g₀ items w from g = Adding (64 * maxBlocks) sizes words items w from g
+
+abbrev μ-loop : tie.MeasureT-loop
+μ-loop words sizes items₀ at w₀ from₀ g₀ items w from g = length sizes - g
+
+-- the group is within the words
+to : (c : tie.In-loop Inv-loop μ-loop)
+    → let s = c .before .before .before .before .before .args in
+    c .before .loop .from + getD (s .sizes .now) (c .before .loop .g) 0 ≤ length (s .words .now)
+to c = walk-fits (c .before .loop .inv .walk) 0 (c .loop-test .taken)
+
+loop-holds : tie.Need-loop-holds Inv-loop μ-loop
+loop-holds c = let s = c .before .before .before in adding-none _ _ _ _ _ (s .pre .0 .sum) (s .pre .1 .0) (s .pre .1 .1)
+
+mul-s : tie.Need-mul-s Inv-loop μ-loop
+mul-s c = search needs
+
+shared-slice-read-s : tie.Need-shared-slice-read-s Inv-loop μ-loop
+shared-slice-read-s c = search needs
+
+cast-from : tie.Need-cast-from Inv-loop μ-loop
+cast-from c = omega (arith, c .shared-slice-known3 .given (c .before .before .loop .g))
+
+add-from : tie.Need-add-from Inv-loop μ-loop
+add-from c = omega (arith, to (c .before), c .before .before .before .before .before .before .pre .0 .few)
+
+add-g : tie.Need-add-g Inv-loop μ-loop
+add-g c = search needs
+
+mul-pairs : tie.Need-mul-pairs Inv-loop μ-loop
+mul-pairs c = search needs
+
+sub-pairs : tie.Need-sub-pairs Inv-loop μ-loop
+sub-pairs c = search needs
+
+part-pairs-start : tie.Need-part-pairs-start Inv-loop μ-loop
+part-pairs-start c = search needs
+
+part-pairs-end : tie.Need-part-pairs-end Inv-loop μ-loop
+part-pairs-end c = to (c .before .before)
+
+pairs-requires : tie.Need-pairs-requires Inv-loop μ-loop
+pairs-requires c κs =
+    let l = c .before .before .before .before .before in
+    let s = l .before .before .before .before in
+    adding-part _ _ _ (l .loop .items) (l .loop .w) (l .loop .from) (l .loop .g) (l .loop .inv) 0 (c .before .before .before .before .loop-test .taken) (c .before .before .if1 .taken) (items-room (s .pre .0))
+
+loop-less : tie.Need-loop-less Inv-loop μ-loop
+loop-less c = search needs
+
+loop-again : tie.Need-loop-again Inv-loop μ-loop
+loop-again c =
+    let l = c .before .before .before .before .before .before .before .before in
+    let s = l .before .before .before .before in
+    let e = c .before .before .pairs .ensures in
+    adding-small _ _ _ (l .loop .items) (l .loop .w) (l .loop .from) (l .loop .g) (l .loop .inv) 0 (c .before .before .before .before .before .before .before .loop-test .taken) (c .before .before .before .before .before .if1 .taken) (items-room (s .pre .0)) _ _ (e .0) (e .1)
+
+loop-less-2 : tie.Need-loop-less-2 Inv-loop μ-loop
+loop-less-2 c = search needs
+
+loop-again-2 : tie.Need-loop-again-2 Inv-loop μ-loop
+loop-again-2 c =
+    let l = c .before .before .before in
+    adding-large _ _ _ (l .loop .items) (l .loop .w) (l .loop .from) (l .loop .g) (l .loop .inv) 0 (c .before .before .loop-test .taken) (c .if1 .left)
+
+same-length : tie.Need-same-length Inv-loop μ-loop
+same-length c = filling-length (c .before .loop .inv .items-are) ∙ sym (filled-length (c .before .before .before .before .before .pre .1 .0))
+
+returns : tie.Need-returns Inv-loop μ-loop
+returns c =
+    let l = c .before in
+    let e = adding-end _ _ _ (l .loop .items) (l .loop .w) (l .loop .from) (l .loop .g) (l .loop .inv) (c .loop-test .left) in
+    record { items-are = e .0; count-is = e .1 }
+
+pub lay-pairs-spec : {M : Type 1} → statement M
+lay-pairs-spec =
+    tie.close
+    (tie.spec
+    Inv-loop
+    μ-loop
+    loop-holds
+    mul-s
+    shared-slice-read-s
+    cast-from
+    add-from
+    add-g
+    mul-pairs
+    sub-pairs
+    part-pairs-start
+    part-pairs-end
+    pairs-requires
+    loop-less
+    loop-again
+    loop-less-2
+    loop-again-2
+    same-length
+    returns)
