@@ -4,8 +4,8 @@ use borrow.Author.Tests.{eq-eqb, ne-eqb}
 use mathlib.Core.Path.{_≡_, refl}
 use native.Mathlib.Omega.{arith}
 use mathlib.Core.List.{List, [], _∷_}
-use Prim.Native.Nat.{ℕ}
-use lib.ListN.{length}
+use Prim.Native.Nat.{ℕ, _-_}
+use lib.ListN.{length, getD}
 use Rattle.text.specs.Input.{bodyLength}
 use Rattle.text.proofs.parse.body_length.Statement.{statement}
 use Rattle.text.proofs.parse.body_length.Tie as tie
@@ -24,10 +24,16 @@ shared-slice-read-if2 : tie.Need-shared-slice-read-if2
 shared-slice-read-if2 c = search needs
 
 returns-2 : tie.Need-returns-2
-returns-2 c = rw (eq-eqb _ _ (c .if2 .taken))
+returns-2 c =
+    let text = c .before .before .before .args .text .now in
+    let newline : getD text (length text - 1) 0 ≡ 10 = c .if2 .taken in
+    rw (eq-eqb _ 10 newline)
 
 returns-3 : tie.Need-returns-3
-returns-3 c = rw (ne-eqb _ _ (c .if2 .left))
+returns-3 c =
+    let text = c .before .before .before .args .text .now in
+    let other : getD text (length text - 1) 0 ≡ 10 → ⊥ = c .if2 .left in
+    rw (ne-eqb _ 10 other)
 
 pub body-length-spec : {M : Type 1} → statement M
 body-length-spec = tie.close (tie.spec returns sub-last shared-slice-read-if2 returns-2 returns-3)
