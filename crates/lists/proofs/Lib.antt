@@ -9,7 +9,8 @@ pub mod NonePass
 pub mod InPlace
 pub mod Mapped
 pub mod Storing
-pub mod Filled
+pub mod Over
+pub mod Parts
 pub mod Walk
 pub mod Equals
 pub mod Signs

@@ -12,6 +12,7 @@ use lib.Dec.{eqb, leb, ltb}
 use lib.ListN.{length, replicate, take}
 use Rattle.lists.specs.Cut.{cut, total}
 use Rattle.lists.proofs.Members.{all-map}
+use Rattle.lists.proofs.Parts.{part-take}
 use Rattle.lists.proofs.Tests.{or-false}
 use Rattle.vectors.specs.declared.Kind.{Kind}
 use Rattle.vectors.specs.declared.Kind.the-variants.{One, Two}
@@ -19,7 +20,7 @@ use Rattle.vectors.specs.Variable.{valueOf, faulty}
 use Rattle.vectors.specs.Choice.{candidates, bestOf}
 use Rattle.vectors.proofs.Choice.Squares.{tally}
 use Rattle.vectors.proofs.Choice.Candidates.{candidates-sound}
-use Rattle.sheet.specs.Layout.{maxBlocks, blocksOf, endsOf, itemsOf, block, first, second}
+use Rattle.sheet.specs.Layout.{maxBlocks, blocksOf, endsOf, itemsOf, block, columnOf, first, second}
 use Rattle.sheet.specs.Gain.{wholeGain, pairGain, gains, Counts}
 use Rattle.sheet.specs.Best.{maxInputs, scoreOf, searchable, bestIn}
 use Rattle.sheet.specs.Judged.{maxGain, Drawn, tallyAt, gainAt, Sheet, Sheets, leftBy}
@@ -153,12 +154,17 @@ module _ (sizes words : List ℕ) (n degree : ℕ) where
 module _ (sizes words items ends columns : List ℕ) (n : ℕ) (r : Laid) (e : searchable sizes words n ≡ true) (o : LaidOut (cut sizes words) items ends r)
     (d : Drawn items columns ((r .items + 63) / 64)) where
   zeros : ℕ
-  zeros = 64 * maxBlocks - length (itemsOf (cut sizes words))
+  zeros = 64 * blocksIn (cut sizes words) - length (itemsOf (cut sizes words))
+
+  -- no block looks beyond them
+  block-is : (w : ℕ) → w < blocksIn (cut sizes words) → block w items ≡ block w (itemsOf (cut sizes words) ++ replicate zeros 0)
+  unfolding zeros
+  block-is w h = sym (part-take 64 (64 * w) (64 * blocksIn (cut sizes words)) items (omega arith)) ∙ ap (block w) (o .items-are)
 
   drawn : Drawn (itemsOf (cut sizes words) ++ replicate zeros 0) columns (blocksIn (cut sizes words))
-  unfolding zeros
   drawn =
-      subst (λ (l : List ℕ). Drawn l columns (blocksIn (cut sizes words))) (o .items-are) (subst (λ (m : ℕ). Drawn items columns ((m + 63) / 64)) (o .count-is) d)
+      let c = subst (λ (m : ℕ). Drawn items columns ((m + 63) / 64)) (o .count-is) d in
+      record { size = c .size; are = λ i w l h. c .are i w l h ∙ ap (columnOf i) (block-is w h) }
 
   fits : blocksIn (cut sizes words) ≤ maxBlocks
   fits = omega (arith, o .few)

@@ -2,15 +2,15 @@
 use Prim.Native.Nat.{ℕ, _+_, _-_, _*_, _≤_, _<_}
 use native.Mathlib.Omega.{arith}
 use native.Mathlib.Nat.{mul-le-mul-right}
-use mathlib.Core.Path.{_≡_, refl}
+use mathlib.Core.Path.{_≡_, refl, _∙_}
 use mathlib.Core.Bool.{Bool, true, false}
 use mathlib.Core.List.{List, [], _∷_, _++_}
 use lib.Dec.{leb}
 use lib.ListN.{length, drop, replicate, length-append, length-map, length-replicate, length-drop}
-use lib.Seq.{length-take-le}
+use lib.Seq.{sets, length-take-le}
 use borrow.Author.Tests.{le-leb, lt-leb, leb-true, leb-false}
 use Rattle.lists.specs.Cut.{cut, total}
-use Rattle.lists.proofs.Filled.{filled-take}
+use Rattle.lists.proofs.Over.{Over, over-start, over-length, over-take, over-sets}
 use Rattle.vectors.proofs.Choice.Groups.{members}
 use Rattle.sheet.specs.Layout.{padded, pairsOf, wholeItems, endsOf, pairItems, itemsOf, blocksOf, maxBlocks, pairedMost}
 use Rattle.sheet.specs.Inner.{Grouped, WholeLaid, PairsLaid, LaidOut}
@@ -108,14 +108,22 @@ module _ {sizes words : List ℕ} (w : Grouped sizes words) where
   pub whole-room : length (wholeItems (cut sizes words)) ≤ 64 * maxBlocks
   whole-room = omega (arith, bounds (cut sizes words) .1, all-members)
 
--- both parts together
-pub laid-out : {gs : List (List ℕ)} {before items ends : List ℕ} (r : Laid) → WholeLaid gs before ends (r .whole) → PairsLaid gs items (r .items) → LaidOut gs items ends r
-laid-out r w p =
+-- both parts together, and zeros up to the end of the last block
+pub laid-out : {gs : List (List ℕ)} {before laid items ends : List ℕ} (r : Laid) → WholeLaid gs before ends (r .whole) → PairsLaid gs laid (r .items)
+    → items ≡ sets laid (r .items) (replicate (64 * blocksOf (r .items) - r .items) 0) → LaidOut gs items ends r
+laid-out {gs} {before} {laid} {items} {ends} r w p e =
+    let z : ℕ = 64 * blocksOf (length (itemsOf gs)) - length (itemsOf gs) in
+    let few : length (itemsOf gs) ≤ 64 * maxBlocks = omega (arith, p .count-is, p .few) in
+    let q : items ≡ sets laid (length (itemsOf gs)) (replicate z 0) = rw (← p .count-is) e in
+    let n : length (replicate {A = ℕ} z 0) ≡ z = length-replicate z 0 in
+    let s : length (itemsOf gs ++ replicate z 0) ≡ 64 * blocksOf (length (itemsOf gs)) = rw length-append (omega arith) in
+    let o : Over laid (itemsOf gs ++ replicate z 0) items = rw q (over-sets (over-start (itemsOf gs) laid (rw (p .count-is) at (p .items-are))) (replicate z 0) (omega (arith, p .size))) in
     record {
-      items-are = p .items-are .is;
-      ends-are = rw (w .whole-is) (filled-take (w .ends-are));
+      size = over-length o ∙ p .size;
+      items-are = rw s at (over-take o);
+      ends-are = w .ends-are;
       whole-is = w .whole-is;
       count-is = p .count-is;
-      few = p .items-are .room;
-      whole-few = omega (arith, w .whole-is, w .ends-are .room);
+      few = few;
+      whole-few = w .few;
     }

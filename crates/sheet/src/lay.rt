@@ -1,12 +1,11 @@
 // The groups laid out as items, 64 to a block.
 ghost use mathlib.Core.Path.{_≡_};
 ghost use mathlib.Core.List.{map};
-ghost use Prim.Native.Nat.{_+_, _*_, _≤_};
+ghost use Prim.Native.Nat.{_+_, _-_, _*_, _≤_};
 ghost use lib.Bits.{bitXor};
-ghost use lib.ListN.{length, replicate};
+ghost use lib.ListN.{length, take, replicate};
 ghost use lib.Seq.{sets};
 ghost use Rattle.lists.specs.Cut.{cut};
-ghost use Rattle.lists.proofs.Filled.{Filled};
 ghost use Rattle.sheet.specs.Layout.{pairsOf, wholeItems, maxBlocks};
 ghost use Rattle.sheet.specs.Inner.{Grouped, WholeLaid, PairsLaid, LaidOut};
 
@@ -24,6 +23,18 @@ pub(crate) fn copy(from: &[u64], to: &mut [u64], at: usize)
     let mut i = 0;
     while i < from.len() {
         to[at + i] = from[i];
+        i += 1;
+    }
+}
+
+// Zeros, from place at until another.
+fn zero(to: &mut [u64], at: usize, until: usize)
+    requires { ⌜ (at ≤ until) × (until ≤ length (now to)) ⌝ }
+    ensures { λ r. ⌜ now (to .exit) ≡ sets (now (to .entry)) at (replicate (until - at) 0) ⌝ }
+{
+    let mut i = at;
+    while i < until {
+        to[i] = 0;
         i += 1;
     }
 }
@@ -56,10 +67,10 @@ fn pairs(group: &[u64], out: &mut [u64], at: usize) -> usize
     w
 }
 
-// The groups of more than 11 members, each from a new block on; how many blocks they take.
+// The groups of more than 11 members, each from a new block on, with zeros up to the end of its last; how many blocks they take.
 fn lay_whole(words: &[u64], sizes: &[u16], items: &mut [u64], ends: &mut [u16]) -> usize
     requires { ⌜ Grouped (now sizes) (now words) ⌝ }
-    requires { ⌜ (now items ≡ replicate (64 * maxBlocks) 0) × (now ends ≡ replicate maxBlocks 0) ⌝ }
+    requires { ⌜ (length (now items) ≡ 64 * maxBlocks) × (now ends ≡ replicate maxBlocks 0) ⌝ }
     ensures { λ r. ⌜ WholeLaid (cut (now (sizes .entry)) (now (words .entry))) (now (items .exit)) (now (ends .exit)) r ⌝ }
 {
     let mut whole = 0;
@@ -67,12 +78,15 @@ fn lay_whole(words: &[u64], sizes: &[u16], items: &mut [u64], ends: &mut [u16]) 
     let mut g = 0;
     while g < sizes.len() {
         let s = sizes[g];
+        let size = s as usize;
         let start = from;
-        from += s as usize;
+        from += size;
         g += 1;
         if s > 11 {
-            copy(&words[start..from], items, 64 * whole);
-            whole += (s as usize + 63) / 64;
+            let at = 64 * whole;
+            copy(&words[start..from], items, at);
+            whole += (size + 63) / 64;
+            zero(items, at + size, 64 * whole);
             ends[whole - 1] = s;
         }
     }
@@ -82,7 +96,7 @@ fn lay_whole(words: &[u64], sizes: &[u16], items: &mut [u64], ends: &mut [u16]) 
 // The pairs of the other groups, from place at on; the place after them.
 fn lay_pairs(words: &[u64], sizes: &[u16], items: &mut [u64], at: usize) -> usize
     requires { ⌜ Grouped (now sizes) (now words) ⌝ }
-    requires { ⌜ Filled (64 * maxBlocks) (wholeItems (cut (now sizes) (now words))) (now items) × (at ≡ length (wholeItems (cut (now sizes) (now words)))) ⌝ }
+    requires { ⌜ (length (now items) ≡ 64 * maxBlocks) × (take at (now items) ≡ wholeItems (cut (now sizes) (now words))) × (at ≡ length (wholeItems (cut (now sizes) (now words)))) ⌝ }
     ensures { λ r. ⌜ PairsLaid (cut (now (sizes .entry)) (now (words .entry))) (now (items .exit)) r ⌝ }
 {
     let mut w = at;
@@ -103,10 +117,11 @@ fn lay_pairs(words: &[u64], sizes: &[u16], items: &mut [u64], at: usize) -> usiz
 // The items of the groups: the large groups first, each from a new block on, then the pairs of the small ones.
 pub(crate) fn lay(words: &[u64], sizes: &[u16], items: &mut [u64], ends: &mut [u16]) -> Laid
     requires { ⌜ Grouped (now sizes) (now words) ⌝ }
-    requires { ⌜ (now items ≡ replicate (64 * maxBlocks) 0) × (now ends ≡ replicate maxBlocks 0) ⌝ }
+    requires { ⌜ (length (now items) ≡ 64 * maxBlocks) × (now ends ≡ replicate maxBlocks 0) ⌝ }
     ensures { λ r. ⌜ LaidOut (cut (now (sizes .entry)) (now (words .entry))) (now (items .exit)) (now (ends .exit)) r ⌝ }
 {
     let whole = lay_whole(words, sizes, items, ends);
     let n = lay_pairs(words, sizes, items, 64 * whole);
+    zero(items, n, 64 * ((n + 63) / 64));
     Laid { whole, items: n }
 }

@@ -18,12 +18,12 @@ pub fn best(words: &[u64], sizes: &[u16], n: u8, degree: usize) -> Kind
     if !check::searchable(words, sizes, n) {
         return Kind::One(0);
     }
-    let mut items = [0u64; 5632];
+    // What the two large arrays start with does not matter; ones are stored without a call of memset.
+    let mut items = [1u64; 5632];
     let mut ends = [0u16; 88];
     let laid = lay::lay(words, sizes, &mut items, &mut ends);
     let whole = laid.whole;
     let blocks = (laid.items + 63) / 64;
-    // What columns starts with does not matter; ones are stored without a call of memset.
     let mut columns = [1u64; 5720];
     draw::draw(&items, blocks, &mut columns);
     search::best_of(&columns, &ends[..whole], blocks, n, degree)

@@ -32,7 +32,7 @@ slice-aggregate-lay-2 c = search needs
 lay-requires : tie.Need-lay-requires
 lay-requires c κs =
     let s = known (c .before .before) in
-    (record { sum = s .sum; few = s .few }, (refl, refl))
+    (record { sum = s .sum; few = s .few }, (search needs, refl))
 
 add-blocks : tie.Need-add-blocks
 add-blocks c = search needs

@@ -1,6 +1,7 @@
 -- `sheet::lay::lay` meets its contract. Assumes nothing.
 use borrow.Author.Needs.{needs}
 use Prim.Native.Nat.{_*_}
+use native.Mathlib.Omega.{arith}
 use mathlib.Core.Path.{sym, ap, _∙_}
 use Rattle.sheet.proofs.Laying.{whole-length, laid-out}
 use Rattle.sheet.proofs.lay.lay.Statement.{statement}
@@ -15,7 +16,16 @@ mul-lay-pairs c = search needs
 lay-pairs-requires : tie.Need-lay-pairs-requires
 lay-pairs-requires c κs =
     let w = c .before .before .before .before .before .lay-whole .ensures in
-    (search needs, (w .items-are, ap (λ k. 64 * k) (w .whole-is) ∙ sym (whole-length _)))
+    (search needs, (w .size, w .items-are, ap (λ k. 64 * k) (w .whole-is) ∙ sym (whole-length _)))
+
+add-zero : tie.Need-add-zero
+add-zero c = omega (arith, c .before .before .before .lay-pairs .ensures .few)
+
+mul-zero : tie.Need-mul-zero
+mul-zero c = omega (arith, c .before .before .before .lay-pairs .ensures .few)
+
+zero-requires : tie.Need-zero-requires
+zero-requires c κs = let p = c .before .before .before .lay-pairs .ensures in (omega arith, omega (arith, p .size, p .few))
 
 same-length : tie.Need-same-length
 same-length c = search needs
@@ -24,7 +34,7 @@ same-length-2 : tie.Need-same-length-2
 same-length-2 c = search needs
 
 returns : tie.Need-returns
-returns c = laid-out _ (c .before .before .before .before .before .before .before .before .lay-whole .ensures) (c .before .before .lay-pairs .ensures)
+returns c = laid-out _ (c .before .before .before .before .before .before .before .before .before .before .before .before .lay-whole .ensures) (c .before .before .before .before .before .before .lay-pairs .ensures) (c .before .before .zero .ensures)
 
 pub lay-spec : {M : Type 1} → statement M
 lay-spec =
@@ -33,6 +43,9 @@ lay-spec =
     lay-whole-requires
     mul-lay-pairs
     lay-pairs-requires
+    add-zero
+    mul-zero
+    zero-requires
     same-length
     same-length-2
     returns)

@@ -1,19 +1,20 @@
 -- `sheet::lay::lay_pairs` meets its contract. Assumes nothing.
 use borrow.Author.Needs.{needs}
-use Prim.Native.Nat.{_+_, _-_, _*_, _≤_}
+use Prim.Native.Nat.{_+_, _-_, _≤_}
 use native.Mathlib.Omega.{arith}
-use mathlib.Core.Path.{sym, _∙_}
+use mathlib.Core.Path.{_∙_}
 use lib.ListN.{length, getD}
-use Rattle.lists.proofs.Filled.{filled-length, filling-length}
+use Rattle.lists.specs.Cut.{cut}
+use Rattle.lists.proofs.Over.{filling-length}
 use Rattle.lists.proofs.Walk.{walk-fits}
-use Rattle.sheet.specs.Layout.{maxBlocks}
+use Rattle.sheet.specs.Layout.{itemsOf}
 use Rattle.sheet.proofs.Laying.{items-room}
 use Rattle.sheet.proofs.LayingSmall.{Adding, adding-none, adding-end, adding-small, adding-part, adding-large}
 use Rattle.sheet.proofs.lay.lay_pairs.Statement.{statement}
 use Rattle.sheet.proofs.lay.lay_pairs.Tie as tie
 
 abbrev Inv-loop : tie.InvT-loop
-Inv-loop words sizes items₀ at w₀ from₀ g₀ items w from g = Adding (64 * maxBlocks) sizes words items w from g
+Inv-loop words sizes items₀ at w₀ from₀ g₀ items w from g = Adding items₀ sizes words items w from g
 
 abbrev μ-loop : tie.MeasureT-loop
 μ-loop words sizes items₀ at w₀ from₀ g₀ items w from g = length sizes - g
@@ -24,8 +25,12 @@ to : (c : tie.In-loop Inv-loop μ-loop)
     c .before .loop .from + getD (s .sizes .now) (c .before .loop .g) 0 ≤ length (s .words .now)
 to c = walk-fits (c .before .loop .inv .walk) 0 (c .loop-test .taken)
 
+-- all items have room
+room : (s : tie.Start Inv-loop μ-loop) → length (itemsOf (cut (s .args .sizes .now) (s .args .words .now))) ≤ length (s .args .items .now)
+room s = omega (arith, items-room (s .pre .0), s .pre .1 .0)
+
 loop-holds : tie.Need-loop-holds Inv-loop μ-loop
-loop-holds c = let s = c .before .before .before in adding-none _ _ _ _ _ (s .pre .0 .sum) (s .pre .1 .0) (s .pre .1 .1)
+loop-holds c = let s = c .before .before .before in adding-none _ _ _ _ (s .pre .0 .sum) (s .pre .1 .1) (s .pre .1 .2)
 
 mul-s : tie.Need-mul-s Inv-loop μ-loop
 mul-s c = search needs
@@ -58,7 +63,7 @@ pairs-requires : tie.Need-pairs-requires Inv-loop μ-loop
 pairs-requires c κs =
     let l = c .before .before .before .before .before in
     let s = l .before .before .before .before in
-    adding-part _ _ _ (l .loop .items) (l .loop .w) (l .loop .from) (l .loop .g) (l .loop .inv) 0 (c .before .before .before .before .loop-test .taken) (c .before .before .if1 .taken) (items-room (s .pre .0))
+    adding-part _ _ _ (l .loop .items) (l .loop .w) (l .loop .from) (l .loop .g) (l .loop .inv) 0 (c .before .before .before .before .loop-test .taken) (c .before .before .if1 .taken) (room s)
 
 loop-less : tie.Need-loop-less Inv-loop μ-loop
 loop-less c = search needs
@@ -68,7 +73,7 @@ loop-again c =
     let l = c .before .before .before .before .before .before .before .before in
     let s = l .before .before .before .before in
     let e = c .before .before .pairs .ensures in
-    adding-small _ _ _ (l .loop .items) (l .loop .w) (l .loop .from) (l .loop .g) (l .loop .inv) 0 (c .before .before .before .before .before .before .before .loop-test .taken) (c .before .before .before .before .before .if1 .taken) (items-room (s .pre .0)) _ _ (e .0) (e .1)
+    adding-small _ _ _ (l .loop .items) (l .loop .w) (l .loop .from) (l .loop .g) (l .loop .inv) 0 (c .before .before .before .before .before .before .before .loop-test .taken) (c .before .before .before .before .before .if1 .taken) (room s) _ _ (e .0) (e .1)
 
 loop-less-2 : tie.Need-loop-less-2 Inv-loop μ-loop
 loop-less-2 c = search needs
@@ -79,13 +84,19 @@ loop-again-2 c =
     adding-large _ _ _ (l .loop .items) (l .loop .w) (l .loop .from) (l .loop .g) (l .loop .inv) 0 (c .before .before .loop-test .taken) (c .if1 .left)
 
 same-length : tie.Need-same-length Inv-loop μ-loop
-same-length c = filling-length (c .before .loop .inv .items-are) ∙ sym (filled-length (c .before .before .before .before .before .pre .1 .0))
+same-length c = filling-length (c .before .loop .inv .items-are)
 
 returns : tie.Need-returns Inv-loop μ-loop
 returns c =
     let l = c .before in
     let e = adding-end _ _ _ (l .loop .items) (l .loop .w) (l .loop .from) (l .loop .g) (l .loop .inv) (c .loop-test .left) in
-    record { items-are = e .0; count-is = e .1 }
+    let s = l .before .before .before .before in
+    record {
+      size = filling-length (l .loop .inv .items-are) ∙ s .pre .1 .0;
+      items-are = e .0;
+      count-is = e .1;
+      few = omega (arith, e .1, items-room (s .pre .0));
+    }
 
 pub lay-pairs-spec : {M : Type 1} → statement M
 lay-pairs-spec =
