@@ -1,13 +1,15 @@
 // The flat record of 40 words: a unit written to it, and read from it.
 ghost use mathlib.Core.Path.{_≡_};
+ghost use mathlib.Core.Bool.{true};
 ghost use mathlib.Core.List.{map};
-ghost use Prim.Native.Nat.{_≤_, _<_, _/_, _%_};
+ghost use Prim.Native.Nat.{_<_, _^_};
 ghost use lib.ListN.{length};
 ghost use mir.Syntax.{w64};
 ghost use mir.Val.{toZ, ofZ};
 ghost use Rattle.unit.specs.Record.{blankVariable};
 ghost use Rattle.bridge.specs.Flat as spec;
 ghost use Rattle.bridge.specs.Calls as calls;
+ghost use Rattle.bridge.specs.Inner.{countedAs};
 use unit::Unit;
 use vectors::Kind;
 use vectors::Part;
@@ -64,25 +66,48 @@ fn part_at(mark: u64) -> Part
     if mark == 0 { Part::Row } else { Part::Column }
 }
 
+// The variable of a word in range. The part is one bit: without a branch the words are read several at a time.
 fn variable_at(word: u64) -> Variable
+    requires { ⌜ word < 2 ^ 17 ⌝ }
     ensures { λ r. ⌜ r ≡ spec.variableAt word ⌝ }
 {
-    if 131071 < word {
-        return blank();
-    }
     let kind = kind_at((word % 256) as u8, (word / 256 % 256) as u8);
-    let part = part_at(word / 65536);
+    let part = part_at(word / 65536 % 2);
     Variable { kind, part }
 }
 
-// The variables of 24 words.
-pub(crate) fn variables(words: &[u64]) -> [Variable; 24]
+// The word as the given build counts it: 0, the blank variable's, for one above 2^17 - 1.
+fn counted(word: u64) -> u64
+    ensures { λ r. ⌜ r ≡ countedAs word ⌝ }
+{
+    if 131071 < word {
+        return 0;
+    }
+    word
+}
+
+pub(crate) fn all_counted(words: &[u64]) -> [u64; 24]
     requires { ⌜ length (now words) ≡ 24 ⌝ }
+    ensures { λ r. ⌜ r ≡ map countedAs (now (words .entry)) ⌝ }
+{
+    let mut w = [0u64; 24];
+    let mut i = 0;
+    while i < 24 {
+        w[i] = counted(words[i]);
+        i += 1;
+    }
+    w
+}
+
+// The variables of 24 words in range. The loop goes by the slice's length and not by 24: small as it then is, the compiler
+// takes it into lookup, where the length is known, and reads the words there several at a time.
+pub(crate) fn variables(words: &[u64]) -> [Variable; 24]
+    requires { ⌜ (length (now words) ≡ 24) × (spec.allInRange (now words) ≡ true) ⌝ }
     ensures { λ r. ⌜ r ≡ map spec.variableAt (now (words .entry)) ⌝ }
 {
     let mut v = [blank(); 24];
     let mut i = 0;
-    while i < 24 {
+    while i < words.len() {
         v[i] = variable_at(words[i]);
         i += 1;
     }
@@ -160,12 +185,11 @@ pub(crate) fn words(unit: Unit) -> [u64; 40]
     w
 }
 
-// The unit of a record.
-pub(crate) fn unit(words: &[u64; 40]) -> Unit
+// The unit of a record, whose variables are read already.
+pub(crate) fn unit(words: &[u64; 40], variables: [Variable; 24]) -> Unit
+    requires { ⌜ variables ≡ map spec.variableAt (spec.variableWords (now words)) ⌝ }
     ensures { λ r. ⌜ r ≡ spec.unitAt (now (words .entry)) ⌝ }
 {
-    let all = &words[..];
-    let variables = variables(&all[8..32]);
     Unit {
         n: words[0] as usize,
         p: words[1] as usize,

@@ -44,7 +44,8 @@ pub extern "C" fn igu_build_given(
     ensures { λ r. ⌜ left r (now (words .exit)) (lent (now (h .exit)) (now (g .exit)) (now (aux .exit)))
         ≡ givenCall n p n1 cells (now (variables .entry)) (now (vectors .entry)) (lent (now (h .entry)) (now (g .entry)) (now (aux .entry))) ⌝ }
 {
-    let given = flat::variables(variables);
+    let counted = flat::all_counted(variables);
+    let given = flat::variables(&counted);
     let built = unit::build_given(n, given, p, n1, cells, vectors, h, g, aux);
     let unit = built.unit;
     *words = flat::words(unit);
@@ -59,7 +60,9 @@ pub extern "C" fn igu_lookup(words: &[u64; 40], h: &[u16], g: &[u16], aux: &[u64
     if !flat::readable(words) {
         return 14;
     }
-    let found = unit::lookup(flat::unit(words), h, g, aux, x);
+    let all = &words[..];
+    let variables = flat::variables(&all[8..32]);
+    let found = unit::lookup(flat::unit(words, variables), h, g, aux, x);
     flat::answer(found.refusal, found.index)
 }
 
@@ -80,7 +83,9 @@ pub extern "C" fn igu_recover(
         *vector = [0];
         return 14;
     }
-    let recovered = unit::recover(flat::unit(words), h, g, aux, i);
+    let all = &words[..];
+    let variables = flat::variables(&all[8..32]);
+    let recovered = unit::recover(flat::unit(words, variables), h, g, aux, i);
     *vector = [recovered.vector];
     recovered.refusal as u64
 }

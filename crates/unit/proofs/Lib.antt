@@ -15,6 +15,7 @@ pub mod GroupsRepeat
 pub mod GroupsMasks
 pub mod ChoiceGather
 pub mod ChoiceStage
+pub mod Faults
 pub mod Values
 pub mod Lookups
 pub mod Recovery

@@ -1,18 +1,20 @@
 -- What the tests of a well-formed unit say. Assumes nothing.
-use Prim.Native.Nat.{ℕ, _-_, _≤_}
-use mathlib.Core.Path.{_≡_}
-use mathlib.Core.Bool.{true, false, not, _&&_}
+use Prim.Native.Nat.{ℕ, _-_, _^_, _≤_}
+use mathlib.Core.Path.{_≡_, refl, sym, _∙_}
+use mathlib.Core.Bool.{Bool, true, false, not, _&&_}
 use borrow.Author.Tests.{ltb-true, ltb-false, leb-true, eqb-true, not-true}
-use lib.Dec.{leb}
-use Rattle.lists.proofs.Tests.{and-true, or-false}
+use lib.Count.{ones}
+use lib.Dec.{eqb, leb, ltb}
+use Rattle.lists.proofs.Tests.{and-true, and-unit, or-false}
 use Rattle.lists.proofs.NonePass.{none-all}
 use Rattle.vectors.specs.Variable.{faulty}
 use Rattle.unit.specs.declared.Unit.{Unit as Igu}
 use Rattle.unit.specs.Bounds.{maxInputs, maxVectors, maxCells, maxVariables, maxSide, outside, tooMany}
 use Rattle.unit.specs.Record.{kindsIn}
+use Rattle.unit.specs.Refusals.{firstFaulty}
 use Rattle.unit.specs.Build.{Tables}
 use Rattle.unit.specs.Lookup.{inBounds, rightInputs, longEnough, wellFormed}
-use Rattle.unit.specs.Inner.Formed.{InBounds, RightInputs, WellFormed}
+use Rattle.unit.specs.Inner.Formed.{InBounds, RightInputs, WellFormed, framedBy}
 
 -- what is not outside is low to high
 pub inside : (low high x : ℕ) → outside low high x ≡ false → (low ≤ x) × (x ≤ high)
@@ -77,6 +79,33 @@ well-formed-facts u t h =
       cells-held = leb-true _ _ (rows .1);
       words-held = ltb-true _ _ (words .1);
     }
+
+and-none : (a : Bool) → (a && false) ≡ false
+and-none true = refl
+and-none false = refl
+
+-- ---- the variables tested last
+
+module _ (u : Igu) (t : Tables) where
+  formed-is : wellFormed u t ≡ framedBy u t && eqb (firstFaulty (u .n) (kindsIn u)) 0
+  unfolding wellFormed framedBy
+  formed-is = last (inBounds u) (eqb (firstFaulty (u .n) (kindsIn u)) 0) (eqb (ones (u .kept)) (u .n - u .p)) (ltb (u .kept) (2 ^ u .n)) (longEnough u t)
+    where
+      last : (a b c d e : Bool) → (a && (b && c && d) && e) ≡ (a && (c && d) && e) && b
+      last false b c d e = refl
+      last true false c d e = sym (and-none ((c && d) && e))
+      last true true c d e = sym (and-unit ((c && d) && e))
+
+  -- the tests up to them
+  pub framed-bounds : framedBy u t ≡ true → InBounds u
+  unfolding framedBy
+  framed-bounds f = in-bounds u (and-true _ _ (and-true _ _ f .0) .0)
+
+  pub formed-not : framedBy u t ≡ false → wellFormed u t ≡ false
+  formed-not f = formed-is ∙ rw f
+
+  pub formed-right : (b : Bool) → framedBy u t ≡ true → b ≡ eqb (firstFaulty (u .n) (kindsIn u)) 0 → b ≡ wellFormed u t
+  formed-right b f e = e ∙ sym (formed-is ∙ rw f)
 
 -- few vectors and cells
 pub few-words : (u : Igu) (t : Tables) → wellFormed u t ≡ true → (u .k ≤ maxVectors) × (u .cells ≤ maxCells)

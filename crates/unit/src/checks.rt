@@ -109,7 +109,7 @@ pub(crate) fn check_given(n: usize, variables: [Variable; 24], p: usize, vectors
     requires { ⌜ (n ≤ maxInputs) × (p ≤ maxVariables) × (length (now vectors) ≤ maxVectors) ⌝ }
     ensures { λ r. ⌜ numbered r ≡ ladder (givenChecks n (kindsOf (take p variables)) (now (vectors .entry))) ⌝ }
 {
-    let faulty = first_faulty(n, variables, p);
+    let faulty = first_faulty(n as u8, variables, p);
     if faulty != 0 {
         return refuse(8, faulty);
     }
@@ -171,30 +171,26 @@ pub(crate) fn first_alike(variables: [Variable; 24], p: usize, vectors: &[u64]) 
     groups::first_repeat(vectors, &masks[..p])
 }
 
-fn faulty(n: usize, kind: Kind) -> bool
+// Whether a position is not 1 to n, or two are not rising. Less 1 a position 0 wraps past every n, so that one test finds
+// it with those above n.
+pub(crate) fn faulty(n: u8, kind: Kind) -> bool
     ensures { λ r. ⌜ r ≡ vars.faulty n kind ⌝ }
 {
     match kind {
-        Kind::One(i) => {
-            if i == 0 {
-                return true;
-            }
-            n < i as usize
-        }
+        Kind::One(i) => n <= std::num::wrapping_sub_u8(i, 1),
         Kind::Two(i, j) => {
-            if i == 0 {
+            let low = std::num::wrapping_sub_u8(i, 1);
+            let high = std::num::wrapping_sub_u8(j, 1);
+            if n <= high {
                 return true;
             }
-            if j <= i {
-                return true;
-            }
-            n < j as usize
+            high <= low
         }
     }
 }
 
 // The number from 1 of the first variable with a position not 1 to n, or two not rising; 0 for none.
-pub(crate) fn first_faulty(n: usize, variables: [Variable; 24], p: usize) -> usize
+pub(crate) fn first_faulty(n: u8, variables: [Variable; 24], p: usize) -> usize
     requires { ⌜ p ≤ maxVariables ⌝ }
     ensures { λ r. ⌜ r ≡ firstFaulty n (kindsOf (take p variables)) ⌝ }
 {

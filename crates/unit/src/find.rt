@@ -1,16 +1,16 @@
 // Looking up.
 ghost use mathlib.Core.Path.{_≡_};
-ghost use Prim.Native.Nat.{_-_, _^_, _≤_, _<_};
-ghost use lib.ListN.{length};
-ghost use lib.Seq.{slice};
+ghost use Prim.Native.Nat.{_^_, _≤_, _<_};
+ghost use lib.ListN.{length, take};
 ghost use Rattle.vectors.specs.Variable.{kindsOf, numberOf, rowOf};
-ghost use Rattle.unit.specs.Bounds.{maxVariables};
+ghost use Rattle.unit.specs.Bounds.{maxInputs, maxVariables};
 ghost use Rattle.unit.specs.Build.{lent};
 ghost use Rattle.unit.specs.Lookup as spec;
 ghost use Rattle.unit.specs.Record.{kindsIn};
-ghost use Rattle.unit.specs.Inner.Formed.{InBounds, RightInputs, WellFormed};
+ghost use Rattle.unit.specs.Inner.Formed.{InBounds, RightInputs, WellFormed, ValuesAre};
 use crate::Found;
 use crate::Unit;
+use crate::checks;
 use crate::variables;
 use crate::word;
 use vectors::Variable;
@@ -35,20 +35,35 @@ pub(crate) fn not_found(refusal: u8) -> Found
     }
 }
 
-// The values of the variables from place from up to place to as a number, the first as lowest bit.
-fn number(variables: [Variable; 24], from: usize, to: usize, x: u64) -> u64
-    requires { ⌜ (from ≤ to) × (to ≤ maxVariables) ⌝ }
-    ensures { λ r. ⌜ (r ≡ numberOf (slice from to (kindsOf variables)) x) × (r < 2 ^ (to - from)) ⌝ }
+// Whether a variable is faulty; if none is, the values of the variables as a number, the first as lowest bit.
+pub(crate) struct Values {
+    pub faulty: bool,
+    pub number: u64,
+}
+
+// One pass tests each variable and takes its value.
+pub(crate) fn take_values(n: u8, variables: [Variable; 24], p: usize, x: u64) -> Values
+    requires { ⌜ (n ≤ maxInputs) × (p ≤ maxVariables) ⌝ }
+    ensures { λ r. ⌜ ValuesAre n (kindsOf (take p variables)) x r ⌝ }
 {
-    let mut r: u64 = 0;
-    let mut i = to;
-    while from < i {
+    let mut number: u64 = 0;
+    let mut i = p;
+    while 0 < i {
         i -= 1;
         let v = variables[i];
         let kind = v.kind;
-        r = r * 2 + variables::value(variables::mask(kind), x);
+        if checks::faulty(n, kind) {
+            return Values {
+                faulty: true,
+                number: 0,
+            };
+        }
+        number = number * 2 + variables::value(variables::mask_within(kind), x);
     }
-    r
+    Values {
+        faulty: false,
+        number,
+    }
 }
 
 // The answer where the cell holds i: i if AUX[i] has the row of x and its kept inputs.
@@ -77,14 +92,14 @@ fn compared(unit: Unit, aux: &[u64], x: u64, row: u64, i: usize) -> Found
     found(i)
 }
 
-// The answer of a unit that is well formed.
-pub(crate) fn answer(unit: Unit, h: &[u16], g: &[u16], aux: &[u64], x: u64) -> Found
-    requires { ⌜ WellFormed unit (lent (now h) (now g) (now aux)) ⌝ }
+// The answer of a unit that is well formed, whose variables have those values on x.
+pub(crate) fn answer(unit: Unit, h: &[u16], g: &[u16], aux: &[u64], x: u64, values: u64) -> Found
+    requires formed { ⌜ WellFormed unit (lent (now h) (now g) (now aux)) ⌝ }
+    requires values { ⌜ values ≡ numberOf (kindsIn unit) x ⌝ }
     ensures { λ r. ⌜ r ≡ spec.answer unit (lent (now (h .entry)) (now (g .entry)) (now (aux .entry))) x ⌝ }
 {
-    let variables = unit.variables;
-    let row = number(variables, 0, unit.n1, x);
-    let column = number(variables, unit.n1, unit.p, x);
+    let row = word::low(values, unit.n1 as u64);
+    let column = values >> unit.n1;
     let cell = h[row as usize] as usize + column as usize;
     if unit.cells <= cell {
         return found(0);

@@ -1,8 +1,8 @@
 // Whether a unit is well formed for lookup.
 ghost use mathlib.Core.Path.{_≡_};
 ghost use Rattle.unit.specs.Build.{lent};
-ghost use Rattle.unit.specs.Lookup.{inBounds, rightInputs, longEnough, wellFormed};
-ghost use Rattle.unit.specs.Inner.Formed.{InBounds};
+ghost use Rattle.unit.specs.Lookup.{inBounds, longEnough, wellFormed};
+ghost use Rattle.unit.specs.Inner.Formed.{InBounds, rightKept, framedBy};
 use crate::Unit;
 use crate::checks;
 
@@ -25,15 +25,11 @@ fn in_bounds(unit: Unit) -> bool
     !checks::too_many(unit.p, unit.n1)
 }
 
-// Whether no variable is faulty, and there are n - p kept inputs, all within n.
-fn right_inputs(unit: Unit) -> bool
+// Whether there are n - p kept inputs, all within n.
+fn right_kept(unit: Unit) -> bool
     requires { ⌜ InBounds unit ⌝ }
-    ensures { λ r. ⌜ r ≡ rightInputs unit ⌝ }
+    ensures { λ r. ⌜ r ≡ rightKept unit ⌝ }
 {
-    let variables = unit.variables;
-    if checks::first_faulty(unit.n, variables, unit.p) != 0 {
-        return false;
-    }
     if u64::count_ones(unit.kept) as usize != unit.n - unit.p {
         return false;
     }
@@ -54,14 +50,25 @@ fn long_enough(unit: Unit, h: &[u16], g: &[u16], aux: &[u64]) -> bool
     unit.k < aux.len()
 }
 
-pub fn well_formed(unit: Unit, h: &[u16], g: &[u16], aux: &[u64]) -> bool
-    ensures { λ r. ⌜ r ≡ wellFormed unit (lent (now (h .entry)) (now (g .entry)) (now (aux .entry))) ⌝ }
+// Whether a unit is well formed but for its variables. Lookup tests those while it takes their values.
+pub(crate) fn framed(unit: Unit, h: &[u16], g: &[u16], aux: &[u64]) -> bool
+    ensures { λ r. ⌜ r ≡ framedBy unit (lent (now (h .entry)) (now (g .entry)) (now (aux .entry))) ⌝ }
 {
     if !in_bounds(unit) {
         return false;
     }
-    if !right_inputs(unit) {
+    if !right_kept(unit) {
         return false;
     }
     long_enough(unit, h, g, aux)
+}
+
+pub fn well_formed(unit: Unit, h: &[u16], g: &[u16], aux: &[u64]) -> bool
+    ensures { λ r. ⌜ r ≡ wellFormed unit (lent (now (h .entry)) (now (g .entry)) (now (aux .entry))) ⌝ }
+{
+    if !framed(unit, h, g, aux) {
+        return false;
+    }
+    let variables = unit.variables;
+    checks::first_faulty(unit.n as u8, variables, unit.p) == 0
 }

@@ -111,13 +111,18 @@ pub fn build_given(
 pub fn lookup(unit: Unit, h: &[u16], g: &[u16], aux: &[u64], x: u64) -> Found
     ensures { λ r. ⌜ r ≡ lookupOf unit (lent (now (h .entry)) (now (g .entry)) (now (aux .entry))) x ⌝ }
 {
-    if !formed::well_formed(unit, h, g, aux) {
+    if !formed::framed(unit, h, g, aux) {
+        return find::not_found(14);
+    }
+    let variables = unit.variables;
+    let values = find::take_values(unit.n as u8, variables, unit.p, x);
+    if values.faulty {
         return find::not_found(14);
     }
     if checks::beyond(unit.n, x) {
         return find::not_found(6);
     }
-    find::answer(unit, h, g, aux, x)
+    find::answer(unit, h, g, aux, x, values.number)
 }
 
 // The registered vector with the number i.

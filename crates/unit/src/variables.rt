@@ -1,15 +1,24 @@
 // Variables as masks of a word, their values, and the number that masks make of a word.
 ghost use mathlib.Core.Path.{_≡_};
-ghost use Prim.Native.Nat.{_*_, _%_, _^_, _≤_};
+ghost use mathlib.Core.Bool.{false};
+ghost use Prim.Native.Nat.{_*_, _%_, _^_, _≤_, _<_};
 ghost use lib.ListN.{length, take};
 ghost use Rattle.vectors.specs.Bits.{placeOf};
-ghost use Rattle.vectors.specs.Variable.{maskOf, kindsOf};
+ghost use Rattle.vectors.specs.Variable.{faulty, maskOf, kindsOf};
 ghost use Rattle.unit.specs.Bounds.{maxInputs, maxVariables};
 ghost use Rattle.unit.specs.Inner.Masks.{masksOf, valueBy, numberBy};
 use vectors::Kind;
 use vectors::Variable;
 
-// The word with input i alone; no bit where a word has no such input.
+// The word with input i alone.
+fn place_within(i: u8) -> u64
+    requires { ⌜ (0 < i) × (i ≤ maxInputs) ⌝ }
+    ensures { λ r. ⌜ r ≡ placeOf i % 2 ^ maxInputs ⌝ }
+{
+    1u64 << (i - 1)
+}
+
+// The same, with no bit where a word has no such input.
 fn place(i: u8) -> u64
     ensures { λ r. ⌜ r ≡ placeOf i % 2 ^ maxInputs ⌝ }
 {
@@ -19,7 +28,7 @@ fn place(i: u8) -> u64
     if 64 < i {
         return 0;
     }
-    1u64 << (i - 1)
+    place_within(i)
 }
 
 // The inputs of a variable.
@@ -29,6 +38,17 @@ pub fn mask(kind: Kind) -> u64
     match kind {
         Kind::One(i) => place(i),
         Kind::Two(i, j) => place(i) ^ place(j),
+    }
+}
+
+// The inputs of a variable that is not faulty. Lookup has tested that, and does not test the positions again.
+pub(crate) fn mask_within(kind: Kind) -> u64
+    requires { ⌜ faulty maxInputs kind ≡ false ⌝ }
+    ensures { λ r. ⌜ r ≡ maskOf kind % 2 ^ maxInputs ⌝ }
+{
+    match kind {
+        Kind::One(i) => place_within(i),
+        Kind::Two(i, j) => place_within(i) ^ place_within(j),
     }
 }
 

@@ -1,13 +1,26 @@
 -- `bridge::igu_build_given` meets its contract. Assumes nothing.
+use Prim.Native.Nat.{ℕ}
 use mathlib.Core.Path.{_∙_}
+use mathlib.Core.List.{List}
 use Rattle.unit.proofs.Places.{given-place}
+use Rattle.bridge.proofs.Words.{counted-all-range, counted-all-variables}
 use Rattle.bridge.proofs.Answers.{place-fits, left-is, given-left}
 use borrow.Author.Needs.{needs}
 use Rattle.bridge.proofs.igu_build_given.Statement.{statement}
 use Rattle.bridge.proofs.igu_build_given.Tie as tie
 
+-- the words of the variables, as they were passed
+abbrev given : tie.Start → List ℕ
+given s = s .args .variables .now
+
+all-counted-requires : tie.Need-all-counted-requires
+all-counted-requires c κs = search needs
+
+slice-aggregate-variables : tie.Need-slice-aggregate-variables
+slice-aggregate-variables c = search needs
+
 variables-requires : tie.Need-variables-requires
-variables-requires c κs = search needs
+variables-requires c κs = (search needs, counted-all-range (given (c .before .before .before .before .before .before .before)) _ (c .before .all-counted .ensures))
 
 build-given-requires : tie.Need-build-given-requires
 build-given-requires c κs = search needs
@@ -28,12 +41,14 @@ same-length-3 : tie.Need-same-length-3
 same-length-3 c = search needs
 
 returns : tie.Need-returns
-returns c = left-is _ _ _ _ _ (c .before .before .before .before .before .before .before .before .before .build-given .ensures) _ _ (c .before .words .ensures) (c .answer .ensures) ∙ given-left _ _ _ _ _ _ _ _ (c .before .before .before .before .before .before .before .before .before .before .before .before .before .variables .ensures)
+returns c = left-is _ _ _ _ _ (c .before .before .before .before .before .before .before .before .before .build-given .ensures) _ _ (c .before .words .ensures) (c .answer .ensures) ∙ given-left _ _ _ _ _ _ _ _ (counted-all-variables (given (c .before .before .before .before .before .before .before .before .before .before .before .before .before .before .before .before .before .before .before .before .before)) _ (c .before .before .before .before .before .before .before .before .before .before .before .before .before .before .before .all-counted .ensures) _ (c .before .before .before .before .before .before .before .before .before .before .before .before .before .variables .ensures))
 
 pub igu-build-given-spec : {M : Type 1} → statement M
 igu-build-given-spec =
     tie.close
     (tie.spec
+    all-counted-requires
+    slice-aggregate-variables
     variables-requires
     build-given-requires
     words-requires

@@ -1,8 +1,10 @@
 -- `bridge::igu_recover` meets its contract. Assumes nothing.
-use mathlib.Core.Path.{sym, ap, _∙_}
+use mathlib.Core.Path.{_≡_, sym, ap, _∙_}
+use mathlib.Core.Bool.{true}
 use mathlib.Core.List.{_∷_, []}
 use borrow.Author.Tests.{not-true, not-false}
 use Rattle.unit.specs.declared.Recovered.{Recovered}
+use Rattle.bridge.specs.Flat.{variableWords, allInRange}
 use Rattle.bridge.proofs.Answers.{recovered-unread, recovered-read}
 use borrow.Author.Needs.{needs}
 use Rattle.bridge.proofs.igu_recover.Statement.{statement}
@@ -16,6 +18,22 @@ returns c =
     let e = recovered-unread _ _ _ (sym (c .before .before .readable .ensures) ∙ not-true _ (c .before .if1 .taken)) in
     (ap (λ (r : Recovered). r .refusal) e, ap (λ (r : Recovered). r .vector ∷ []) e)
 
+-- the variable words are in range
+read : (c : tie.Else1) → allInRange (variableWords (c .before .before .before .before .before .args .words .now)) ≡ true
+read c = sym (c .before .readable .ensures) ∙ not-false _ (c .if1 .left)
+
+sub-variables : tie.Need-sub-variables
+sub-variables c = search needs
+
+part-variables-start : tie.Need-part-variables-start
+part-variables-start c = search needs
+
+part-variables-end : tie.Need-part-variables-end
+part-variables-end c = search needs
+
+variables-requires : tie.Need-variables-requires
+variables-requires c κs = (search needs, read (c .before .before))
+
 unit-requires : tie.Need-unit-requires
 unit-requires c κs = search needs
 
@@ -27,11 +45,20 @@ cast-result c = search needs
 
 returns-2 : tie.Need-returns-2
 returns-2 c =
-    let read = sym (c .before .before .before .before .before .readable .ensures) ∙ not-false _ (c .before .before .before .before .if1 .left) in
-    let e = recovered-read _ _ _ _ _ read (c .before .before .before .unit .ensures) (c .before .before .recover .ensures) in
+    let e = recovered-read _ _ _ _ _ (read (c .before .before .before .before .before .before .before)) (c .before .before .before .unit .ensures) (c .before .before .recover .ensures) in
     (ap (λ (r : Recovered). r .refusal) e, ap (λ (r : Recovered). r .vector ∷ []) e)
 
 pub igu-recover-spec : {M : Type 1} → statement M
 igu-recover-spec =
     tie.close
-    (tie.spec readable-requires returns unit-requires recover-requires cast-result returns-2)
+    (tie.spec
+    readable-requires
+    returns
+    sub-variables
+    part-variables-start
+    part-variables-end
+    variables-requires
+    unit-requires
+    recover-requires
+    cast-result
+    returns-2)

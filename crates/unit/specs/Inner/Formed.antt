@@ -1,20 +1,34 @@
 -- What is known of a unit that is well formed, and the vector that a word and a column fix in it.
 use Prim.Native.Nat.{ℕ, _+_, _-_, _^_, _≤_, _<_}
 use mathlib.Core.Path.{_≡_}
-use mathlib.Core.Bool.{true, false, _&&_}
+use mathlib.Core.Bool.{Bool, true, false, not, _&&_}
+use mathlib.Core.List.{List}
 use lib.Count.{ones}
-use lib.Dec.{ltb}
+use lib.Dec.{eqb, ltb}
 use lib.ListN.{length}
 use Rattle.lists.proofs.Members.{All}
-use Rattle.vectors.specs.Variable.{faulty}
+use Rattle.vectors.specs.declared.Kind.{Kind}
+use Rattle.vectors.specs.Variable.{faulty, numberOf}
 use Rattle.vectors.specs.Span.{soundOf}
 use Rattle.vectors.specs.Word.{vectorOf}
 use Rattle.unit.specs.declared.Unit.{Unit as Igu}
 use Rattle.unit.specs.declared.Recovered.{Recovered}
+use Rattle.unit.specs.declared.find.Values.{Values}
 use Rattle.unit.specs.Bounds.{maxInputs, maxVariables, maxSide}
 use Rattle.unit.specs.Record.{kindsIn}
+use Rattle.unit.specs.Refusals.{firstFaulty}
 use Rattle.unit.specs.Build.{Tables}
+use Rattle.unit.specs.Lookup.{inBounds, longEnough}
 use Rattle.unit.specs.Recover.{recovered, notRecovered}
+
+-- "n - p kept inputs, all within n"
+abbrev pub rightKept : Igu → Bool
+rightKept u = eqb (ones (u .kept)) (u .n - u .p) && ltb (u .kept) (2 ^ u .n)
+
+-- well formed but for the variables
+unfoldable pub framedBy : Igu → Tables → Bool
+unfolding ones
+framedBy u t = inBounds u && rightKept u && longEnough u t
 
 -- of the numbers
 pub record InBounds (u : Igu) : Type 0 where
@@ -37,6 +51,11 @@ pub record WellFormed (u : Igu) (t : Tables) : Type 0 where
   pub rows-held : 2 ^ u .n1 ≤ length (t .h)
   pub cells-held : u .cells ≤ length (t .g)
   pub words-held : u .k < length (t .aux)
+
+-- whether one of the variables is faulty, and their values on x if none is
+pub record ValuesAre (n : ℕ) (ks : List Kind) (x : ℕ) (r : Values) : Type 0 where
+  pub fault : r .faulty ≡ not (eqb (firstFaulty n ks) 0)
+  pub value : r .faulty ≡ false → r .number ≡ numberOf ks x
 
 -- the vector that the word and the column fix
 unfoldable pub vectorIn : Igu → ℕ → ℕ → Recovered

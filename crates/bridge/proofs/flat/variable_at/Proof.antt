@@ -1,16 +1,8 @@
 -- `bridge::flat::variable_at` meets its contract. Assumes nothing.
 use borrow.Author.Needs.{needs}
-use native.Mathlib.Omega.{arith}
-use mathlib.Core.Path.{ap₂, _∙_}
-use Rattle.bridge.proofs.Words.{variable-in, variable-out}
+use Rattle.bridge.proofs.Words.{variable-bits}
 use Rattle.bridge.proofs.flat.variable_at.Statement.{statement}
 use Rattle.bridge.proofs.flat.variable_at.Tie as tie
-
-blank-requires : tie.Need-blank-requires
-blank-requires c κs = search needs
-
-returns : tie.Need-returns
-returns c = c .blank .ensures ∙ variable-out _ (omega arith)
 
 cast-kind-at : tie.Need-cast-kind-at
 cast-kind-at c = search needs
@@ -24,17 +16,8 @@ kind-at-requires c κs = search needs
 part-at-requires : tie.Need-part-at-requires
 part-at-requires c κs = search needs
 
-returns-2 : tie.Need-returns-2
-returns-2 c = ap₂ (λ k p. record { kind = k; part = p }) (c .before .kind-at .ensures) (c .part-at .ensures) ∙ variable-in _ (omega arith)
+returns : tie.Need-returns
+returns c = variable-bits _ _ _ (c .before .before .pre) (c .before .kind-at .ensures) (c .part-at .ensures)
 
 pub variable-at-spec : {M : Type 1} → statement M
-variable-at-spec =
-    tie.close
-    (tie.spec
-    blank-requires
-    returns
-    cast-kind-at
-    cast-kind-at-2
-    kind-at-requires
-    part-at-requires
-    returns-2)
+variable-at-spec = tie.close (tie.spec cast-kind-at cast-kind-at-2 kind-at-requires part-at-requires returns)

@@ -8,6 +8,7 @@ use lib.ListN.{length, take, length-set}
 use lib.Seq.{take-all}
 use Rattle.lists.proofs.Mapped.{mapped-more}
 use Rattle.bridge.specs.Flat.{variableAt}
+use Rattle.bridge.proofs.Words.{range-at}
 use Rattle.bridge.proofs.flat.variables.Statement.{statement}
 use Rattle.bridge.proofs.flat.variables.Tie as tie
 
@@ -30,7 +31,7 @@ shared-slice-read-variable-at : tie.Need-shared-slice-read-variable-at Inv-loop 
 shared-slice-read-variable-at c = search needs
 
 variable-at-requires : tie.Need-variable-at-requires Inv-loop μ-loop
-variable-at-requires c κs = tt
+variable-at-requires c κs = range-at _ (c .before .before .loop .i) (c .before .before .before .before .before .pre .1) (omega arith)
 
 mul-v : tie.Need-mul-v Inv-loop μ-loop
 mul-v c = search needs
@@ -48,7 +49,7 @@ loop-again : tie.Need-loop-again Inv-loop μ-loop
 loop-again c = let l = c .before .before .before .loop in (omega arith, length-set (l .v) (l .i) _ ∙ l .inv .1, mapped-more variableAt _ (l .v) (l .i) _ _ (omega arith) (omega arith) (c .variable-at .ensures) (l .inv .2))
 
 returns : tie.Need-returns Inv-loop μ-loop
-returns c = let l = c .before .loop in sym (take-all (l .i) (l .v) (omega arith)) ∙ l .inv .2 ∙ ap (map variableAt) (take-all (l .i) _ (omega (arith, c .before .before .before .before .pre)))
+returns c = let l = c .before .loop in sym (take-all (l .i) (l .v) (omega arith)) ∙ l .inv .2 ∙ ap (map variableAt) (take-all (l .i) _ (omega (arith, c .before .before .before .before .pre .0)))
 
 pub variables-spec : {M : Type 1} → statement M
 variables-spec =

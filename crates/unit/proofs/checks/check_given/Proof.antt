@@ -27,6 +27,9 @@ past2 c = past1 (c .before .before) ∙ at-no 8 _ _ (sym (c .before .first-depen
 past3 : (c : tie.Else3) → let s = c .before .before .before .before .before .before .before in ladder (rungs s) ≡ ladder (drop 3 (rungs s))
 past3 c = past2 (c .before .before) ∙ at-no 9 _ _ (sym (c .before .first-alike .ensures) ∙ c .if3 .left)
 
+cast-first-faulty : tie.Need-cast-first-faulty
+cast-first-faulty c = search needs
+
 first-faulty-requires : tie.Need-first-faulty-requires
 first-faulty-requires c κs = search needs
 
@@ -77,6 +80,7 @@ pub check-given-spec : {M : Type 1} → statement M
 check-given-spec =
     tie.close
     (tie.spec
+    cast-first-faulty
     first-faulty-requires
     refuse-requires
     returns

@@ -1,46 +1,53 @@
 -- `unit::checks::faulty` meets its contract. Assumes nothing.
-use borrow.Author.Tests.{ne-eqb, le-leb, lt-leb}
 use borrow.Author.Needs.{needs}
+use native.Mathlib.Omega.{arith}
+use Rattle.unit.proofs.Faults.{fault-one, fault-past, fault-rising}
 use Rattle.unit.proofs.checks.faulty.Statement.{statement}
 use Rattle.unit.proofs.checks.faulty.Tie as tie
 
 enum-known-kind : tie.Need-enum-known-kind
 enum-known-kind c = search needs
 
-returns : tie.Need-returns
-returns c = search needs
-
-cast-result : tie.Need-cast-result
-cast-result c = search needs
+wrapping-sub-u8-requires : tie.Need-wrapping-sub-u8-requires
+wrapping-sub-u8-requires c κs = search needs
 
 enum-known-kind-2 : tie.Need-enum-known-kind-2
 enum-known-kind-2 c = search needs
 
+wrapping-sub-u8-requires-2 : tie.Need-wrapping-sub-u8-requires-2
+wrapping-sub-u8-requires-2 c κs = search needs
+
+wrapping-sub-u8-requires-3 : tie.Need-wrapping-sub-u8-requires-3
+wrapping-sub-u8-requires-3 c κs = search needs
+
+returns : tie.Need-returns
+returns c =
+    let low = c .before .before .wrapping-sub-u82 in
+    let high = c .before .wrapping-sub-u83 in
+    let k = c .before .before .before .before in
+    rw (k .kind2 .given .1) (fault-past _ _ _ (k .before .before .fits .n .fits) (omega arith) (low .ensures) _ _ (omega arith) (high .ensures) (c .if1 .taken))
+
 returns-2 : tie.Need-returns-2
-returns-2 c = search needs
+returns-2 c =
+    let k = c .before .before in
+    rw (k .kind .given .1) (fault-one _ _ _ (k .before .before .fits .n .fits) (omega arith) (c .wrapping-sub-u8 .ensures))
 
 returns-3 : tie.Need-returns-3
-returns-3 c = rw (c .before .before .before .kind2 .given .1, ne-eqb _ _ (c .before .if2 .left), le-leb _ _ (c .if3 .taken))
-
-cast-result-2 : tie.Need-cast-result-2
-cast-result-2 c = search needs
-
-returns-4 : tie.Need-returns-4
-returns-4 c = rw (c .before .before .kind .given .1, ne-eqb _ _ (c .if1 .left))
-
-returns-5 : tie.Need-returns-5
-returns-5 c = rw (c .before .before .before .kind2 .given .1, ne-eqb _ _ (c .before .if2 .left), lt-leb _ _ (c .if3 .left))
+returns-3 c =
+    let low = c .before .before .wrapping-sub-u82 in
+    let high = c .before .wrapping-sub-u83 in
+    let k = c .before .before .before .before in
+    rw (k .kind2 .given .1) (fault-rising _ _ _ (k .before .before .fits .n .fits) (omega arith) (low .ensures) _ _ (omega arith) (high .ensures) (c .if1 .left))
 
 pub faulty-spec : {M : Type 1} → statement M
 faulty-spec =
     tie.close
     (tie.spec
     enum-known-kind
-    returns
-    cast-result
+    wrapping-sub-u8-requires
     enum-known-kind-2
+    wrapping-sub-u8-requires-2
+    wrapping-sub-u8-requires-3
+    returns
     returns-2
-    returns-3
-    cast-result-2
-    returns-4
-    returns-5)
+    returns-3)

@@ -1,75 +1,90 @@
 -- `unit::find::answer` meets its contract. Assumes nothing.
-use Prim.Native.Nat.{ℕ, _+_, _-_, _^_, _<_}
+use Prim.Native.Nat.{ℕ, _+_, _-_, _/_, _%_, _^_, _≤_, _<_}
 use native.Mathlib.Nat.{lt-of-lt-of-le}
 use native.Mathlib.Omega.{arith}
-use mathlib.Core.Path.{_≡_, ap₂, _∙_}
-use lib.ListN.{length, getD}
+use mathlib.Core.Path.{_≡_, sym, ap, ap₂, _∙_}
+use lib.ListN.{length, getD, length-map}
 use lib.Pow.{pow-mono}
 use Rattle.vectors.specs.Variable.{rowOf, columnOf}
 use Rattle.unit.specs.Bounds.{maxSide}
 use Rattle.unit.specs.Record.{kindsIn}
 use Rattle.unit.specs.Build.{lent}
 use Rattle.unit.specs.Lookup.{cellIn}
-use Rattle.unit.proofs.Values.{values-row, values-column}
+use Rattle.unit.proofs.Values.{values-row, values-column, row-below, column-below}
 use Rattle.unit.proofs.Lookups.{answer-out, answer-in}
 use borrow.Author.Needs.{needs}
 use Rattle.unit.proofs.find.answer.Statement.{statement}
 use Rattle.unit.proofs.find.answer.Tie as tie
 
+sized : (s : tie.Start) → length (s .args .unit .variables) ≡ 24
+sized s = sym (length-map (s .args .unit .variables) _) ∙ s .good .0 .1 .1 .1 .1 .1 .1 .1 .1 .1 .1 .0 .1 .0 .1
+
+within : (s : tie.Start) → s .args .unit .p ≤ length (s .args .unit .variables)
+within s = omega (arith, sized s, s .pre .0 .bounds .few)
+
 -- the row
-row-is : (c : tie.After-number) → let a = c .before .before .before .before .before .args in c .number .result ≡ rowOf (a .unit .n1) (kindsIn (a .unit)) (a .x)
+row-is : (c : tie.After-low) → let a = c .before .before .before .before .args in c .low .result ≡ rowOf (a .unit .n1) (kindsIn (a .unit)) (a .x)
 row-is c =
-    let s = c .before .before .before .before .before in
+    let s = c .before .before .before .before in
     let u = s .args .unit in
-    c .number .ensures .0 ∙ values-row (u .variables) (u .p) (u .n1) (s .args .x) (s .pre .bounds .rows-in)
+    c .low .ensures ∙ ap (λ (v : ℕ). v % 2 ^ u .n1) (s .pre .1) ∙ values-row (u .variables) (u .p) (u .n1) (s .args .x) (within s) (s .pre .0 .bounds .rows-in)
 
-row-lt : (c : tie.After-number) → c .number .result < 2 ^ c .before .before .before .before .before .args .unit .n1
+row-lt : (c : tie.After-low) → c .low .result < 2 ^ c .before .before .before .before .args .unit .n1
 row-lt c =
-    let n1 = c .before .before .before .before .before .args .unit .n1 in
-    let e : n1 - 0 ≡ n1 = omega arith in
-    rw e at (c .number .ensures .1)
+    let s = c .before .before .before .before in
+    let u = s .args .unit in
+    omega (arith, row-is c, row-below (u .variables) (u .p) (u .n1) (s .args .x) (within s) (s .pre .0 .bounds .rows-in))
 
-row-held : (c : tie.After-number) → c .number .result < length (c .before .before .before .before .before .args .h .now)
-row-held c = lt-of-lt-of-le (row-lt c) (c .before .before .before .before .before .pre .rows-held)
+row-held : (c : tie.After-low) → c .low .result < length (c .before .before .before .before .args .h .now)
+row-held c = lt-of-lt-of-le (row-lt c) (c .before .before .before .before .pre .0 .rows-held)
 
 -- the column
-column-is : (c : tie.After-number2) → let a = c .before .before .before .before .before .before .args in c .number2 .result ≡ columnOf (a .unit .n1) (kindsIn (a .unit)) (a .x)
-column-is c =
-    let a = c .before .before .before .before .before .before .args in
-    c .number2 .ensures .0 ∙ values-column (a .unit .variables) (a .unit .p) (a .unit .n1) (a .x)
+column-is : (s : tie.Start) → let a = s .args in a .values / 2 ^ a .unit .n1 ≡ columnOf (a .unit .n1) (kindsIn (a .unit)) (a .x)
+column-is s =
+    let u = s .args .unit in
+    ap (λ (v : ℕ). v / 2 ^ u .n1) (s .pre .1) ∙ values-column (u .variables) (u .p) (u .n1) (s .args .x) (within s) (s .pre .0 .bounds .rows-in)
 
-column-low : (c : tie.After-number2) → c .number2 .result < 2 ^ maxSide
-column-low c =
-    let s = c .before .before .before .before .before .before in
-    lt-of-lt-of-le (c .number2 .ensures .1) (pow-mono {i = s .args .unit .p - s .args .unit .n1} {j = maxSide} (s .pre .bounds .columns-few))
+column-low : (s : tie.Start) → s .args .values / 2 ^ s .args .unit .n1 < 2 ^ maxSide
+column-low s =
+    let u = s .args .unit in
+    omega (
+      arith,
+      column-is s,
+      lt-of-lt-of-le (column-below (u .variables) (u .p) (u .n1) (s .args .x) (within s) (s .pre .0 .bounds .rows-in)) (pow-mono {i = u .p - u .n1} {j = maxSide} (s .pre .0 .bounds .columns-few)),
+    )
 
 -- the cell
-displaced : (c : tie.After-shared-slice-known4) → getD (c .before .before .before .before .before .before .before .args .h .now) (c .before .before .number .result) 0 < 2 ^ 16
-displaced c = omega (arith, c .shared-slice-known4 .given (c .before .before .number .result))
+abbrev cell : tie.After-shared-slice-known4 → ℕ
+cell c =
+    let a = c .before .before .before .before .before .args in
+    getD (a .h .now) (c .before .low .result) 0 + a .values / 2 ^ a .unit .n1
 
-cell-is : (c : tie.After-shared-slice-known4) → let a = c .before .before .before .before .before .before .before .args in
-    getD (a .h .now) (c .before .before .number .result) 0 + c .before .number2 .result ≡ cellIn (a .unit) (lent (a .h .now) (a .g .now) (a .aux .now)) (a .x)
+displaced : (c : tie.After-shared-slice-known4) → getD (c .before .before .before .before .before .args .h .now) (c .before .low .result) 0 < 2 ^ 16
+displaced c = omega (arith, c .shared-slice-known4 .given (c .before .low .result))
+
+cell-is : (c : tie.After-shared-slice-known4) → let a = c .before .before .before .before .before .args in
+    cell c ≡ cellIn (a .unit) (lent (a .h .now) (a .g .now) (a .aux .now)) (a .x)
 cell-is c =
-    let a = c .before .before .before .before .before .before .before .args in
-    ap₂ (λ (r q : ℕ). getD (a .h .now) r 0 + q) (row-is (c .before .before)) (column-is (c .before))
+    let s = c .before .before .before .before .before in
+    ap₂ (λ (r q : ℕ). getD (s .args .h .now) r 0 + q) (row-is (c .before)) (column-is s)
 
-number-requires : tie.Need-number-requires
-number-requires c κs = search needs
+low-requires : tie.Need-low-requires
+low-requires c κs = search needs
 
-number-requires-2 : tie.Need-number-requires-2
-number-requires-2 c κs = search needs
+shr-column : tie.Need-shr-column
+shr-column c = search needs
 
 mul-cell : tie.Need-mul-cell
-mul-cell c = omega (arith, row-held (c .before), c .before .before .before .before .before .before .good .1 .0)
+mul-cell c = omega (arith, row-held c, c .before .before .before .before .good .1 .0)
 
 shared-slice-read-cell : tie.Need-shared-slice-read-cell
-shared-slice-read-cell c = row-held (c .before .before)
+shared-slice-read-cell c = row-held (c .before)
 
 cast-cell : tie.Need-cast-cell
 cast-cell c = omega (arith, displaced c)
 
 add-cell : tie.Need-add-cell
-add-cell c = omega (arith, displaced c, column-low (c .before))
+add-cell c = omega (arith, displaced c, column-low (c .before .before .before .before .before))
 
 found-requires : tie.Need-found-requires
 found-requires c κs = search needs
@@ -84,15 +99,13 @@ shared-slice-read-compared : tie.Need-shared-slice-read-compared
 shared-slice-read-compared c = search needs
 
 cast-compared : tie.Need-cast-compared
-cast-compared c =
-    let d = c .before .before .before in
-    omega (arith, c .shared-slice-known5 .given (getD (d .before .before .before .before .before .before .before .args .h .now) (d .before .before .number .result) 0 + d .before .number2 .result))
+cast-compared c = omega (arith, c .shared-slice-known5 .given (cell (c .before .before .before)))
 
 compared-requires : tie.Need-compared-requires
 compared-requires c κs =
-    let p = c .before .before .before .before .before in
-    let s = p .before .before .before .before .before in
-    ((s .pre .bounds, s .pre .inputs), (s .pre .words-held, (row-is p, row-lt p)))
+    let p = c .before .before .before .before in
+    let f = p .before .before .before .before .pre .0 in
+    ((f .bounds, f .inputs), (f .words-held, (row-is p, row-lt p)))
 
 returns-2 : tie.Need-returns-2
 returns-2 c = c .compared .ensures ∙ answer-in _ _ _ _ (cell-is (c .before .before .before .before)) (c .before .before .if1 .left)
@@ -101,8 +114,8 @@ pub answer-spec : {M : Type 1} → statement M
 answer-spec =
     tie.close
     (tie.spec
-    number-requires
-    number-requires-2
+    low-requires
+    shr-column
     mul-cell
     shared-slice-read-cell
     cast-cell

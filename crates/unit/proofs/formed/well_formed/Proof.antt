@@ -1,46 +1,38 @@
 -- `unit::formed::well_formed` meets its contract. Assumes nothing.
 use borrow.Author.Tests.{not-true, not-false}
-use mathlib.Core.Path.{_≡_, sym, _∙_}
+use native.Mathlib.Omega.{arith}
+use Prim.Native.Nat.{ℕ}
+use mathlib.Core.Path.{_≡_, sym, ap, _∙_}
 use mathlib.Core.Bool.{true}
-use Rattle.unit.specs.Lookup.{inBounds, wellFormed}
-use Rattle.unit.proofs.WellFormed.{in-bounds}
+use lib.Dec.{eqb}
+use Rattle.unit.specs.Build.{lent}
+use Rattle.unit.specs.Inner.Formed.{InBounds, framedBy}
+use Rattle.unit.proofs.WellFormed.{framed-bounds, formed-not, formed-right}
 use borrow.Author.Needs.{needs}
 use Rattle.unit.proofs.formed.well_formed.Statement.{statement}
 use Rattle.unit.proofs.formed.well_formed.Tie as tie
 
-bounds : (c : tie.Else1) → inBounds (c .before .before .before .before .before .args .unit) ≡ true
-bounds c = sym (c .before .in-bounds .ensures) ∙ not-false _ (c .if1 .left)
+framed : (c : tie.Else1) → let a = c .before .before .before .before .before .args in framedBy (a .unit) (lent (a .h .now) (a .g .now) (a .aux .now)) ≡ true
+framed c = sym (c .before .framed .ensures) ∙ not-false _ (c .if1 .left)
 
-in-bounds-requires : tie.Need-in-bounds-requires
-in-bounds-requires c κs = search needs
+bounds : (c : tie.Else1) → InBounds (c .before .before .before .before .before .args .unit)
+bounds c = framed-bounds _ _ (framed c)
+
+framed-requires : tie.Need-framed-requires
+framed-requires c κs = search needs
 
 returns : tie.Need-returns
-unfolding wellFormed
-returns c = rw (sym (c .before .in-bounds .ensures) ∙ not-true _ (c .if1 .taken))
+returns c = sym (formed-not _ _ (sym (c .before .framed .ensures) ∙ not-true _ (c .if1 .taken)))
 
-right-inputs-requires : tie.Need-right-inputs-requires
-right-inputs-requires c κs = in-bounds (c .before .before .before .before .before .args .unit) (bounds c)
+cast-first-faulty : tie.Need-cast-first-faulty
+cast-first-faulty c = omega (arith, bounds (c .before .before) .inputs)
+
+first-faulty-requires : tie.Need-first-faulty-requires
+first-faulty-requires c κs = bounds (c .before .before) .few
 
 returns-2 : tie.Need-returns-2
-unfolding wellFormed
-returns-2 c = rw (bounds (c .before .before), sym (c .before .right-inputs .ensures) ∙ not-true _ (c .if2 .taken))
-
-long-enough-requires : tie.Need-long-enough-requires
-long-enough-requires c κs = let e = c .before .before in in-bounds (e .before .before .before .before .before .args .unit) (bounds e)
-
-returns-3 : tie.Need-returns-3
-unfolding wellFormed
-returns-3 c =
-    let e = c .before in
-    rw (bounds (e .before .before), sym (e .before .right-inputs .ensures) ∙ not-false _ (e .if2 .left)) (c .long-enough .ensures)
+returns-2 c = formed-right _ _ _ (framed (c .before .before .before)) (ap (λ (i : ℕ). eqb i 0) (c .first-faulty .ensures))
 
 pub well-formed-spec : {M : Type 1} → statement M
 well-formed-spec =
-    tie.close
-    (tie.spec
-    in-bounds-requires
-    returns
-    right-inputs-requires
-    returns-2
-    long-enough-requires
-    returns-3)
+    tie.close (tie.spec framed-requires returns cast-first-faulty first-faulty-requires returns-2)

@@ -1,11 +1,7 @@
 -- `unit::variables::place` meets its contract. Assumes nothing.
 use borrow.Author.Needs.{needs}
-use Prim.Native.Nat.{_-_, _^_}
-use native.Mathlib.Nat.{one-mul}
-use native.Mathlib.Omega.{arith}
-use mathlib.Core.Path.{sym, _∙_}
-use lib.Pow.{shl-exact}
-use Rattle.vectors.proofs.BitsLaws.{place-out, place-in}
+use mathlib.Core.Path.{sym}
+use Rattle.vectors.proofs.BitsLaws.{place-out}
 use Rattle.unit.specs.Bounds.{maxInputs}
 use Rattle.unit.proofs.variables.place.Statement.{statement}
 use Rattle.unit.proofs.variables.place.Tie as tie
@@ -16,19 +12,11 @@ returns c = rw (c .if1 .taken)
 returns-2 : tie.Need-returns-2
 returns-2 c = sym (place-out maxInputs _ (c .if2 .taken))
 
-sub-result : tie.Need-sub-result
-sub-result c = search needs
-
-cast-result : tie.Need-cast-result
-cast-result c = search needs
-
-shl-result : tie.Need-shl-result
-shl-result c = search needs
+place-within-requires : tie.Need-place-within-requires
+place-within-requires c κs = search needs
 
 returns-3 : tie.Need-returns-3
-returns-3 c =
-    let i = c .before .before .args .i in
-    shl-exact {a = 1} 1 (i - 1) maxInputs (omega arith) (omega arith) ∙ one-mul (2 ^ (i - 1)) ∙ sym (place-in maxInputs i (omega arith) (omega arith))
+returns-3 c = c .place-within .ensures
 
 pub place-spec : {M : Type 1} → statement M
-place-spec = tie.close (tie.spec returns returns-2 sub-result cast-result shl-result returns-3)
+place-spec = tie.close (tie.spec returns returns-2 place-within-requires returns-3)
