@@ -32,7 +32,3 @@ module _ {A : Type 0} (P : A → Type 0) where
   pub all-map : {B : Type 0} (f : B → A) (l : List B) → All (λ x. P (f x)) l → All P (map f l)
   all-map f [] a = tt
   all-map f (x ∷ l) a = (a .0, all-map f l (a .1))
-
-  pub all-imp : (Q : A → Type 0) → ((x : A) → P x → Q x) → (l : List A) → All P l → All Q l
-  all-imp Q f [] a = tt
-  all-imp Q f (x ∷ l) a = (f x (a .0), all-imp Q f l (a .1))

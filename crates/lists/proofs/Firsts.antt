@@ -10,7 +10,6 @@ use native.Mathlib.Numerals.{add-one}
 use lib.ListN.{length, getD, drop, drop-of-length-le}
 use lib.Seq.{drop-cons}
 use Rattle.lists.specs.First.{firstIn, firstOf, firstFrom}
-use Rattle.lists.proofs.Members.{All}
 
 module _ {A : Type 0} (test : List A → A → Bool) where
   pub first-here : (before : List A) (x : A) (xs : List A) (i : ℕ) → test before x ≡ true → firstIn test before (x ∷ xs) i ≡ i
@@ -35,19 +34,6 @@ first-in-le {A} test before (x ∷ xs) i = go (test before x) refl (first-in-le 
 pub first-length : {A : Type 0} (test : List A → A → Bool) (xs : List A) → firstOf test xs ≤ length xs
 unfolding firstOf
 first-length test xs = omega (arith, first-in-le test [] xs 0)
-
-none-in : {A : Type 0} (test : A → Bool) (before xs : List A) (i : ℕ) → firstIn (λ before x. test x) before xs (suc i) ≡ 0 → All (λ x. test x ≡ false) xs
-none-in test before [] i e = tt
-none-in {A} test before (x ∷ xs) i e = go (test x) refl (none-in test (x ∷ before) xs (suc i))
-  where
-    go : (t : Bool) → test x ≡ t → (firstIn (λ before x. test x) (x ∷ before) xs (suc (suc i)) ≡ 0 → All (λ x. test x ≡ false) xs) → All (λ x. test x ≡ false) (x ∷ xs)
-    go true p r = let z : suc i ≡ 0 = sym (first-here (λ before x. test x) before x xs (suc i) p) ∙ e in absurd (omega arith)
-    go false p r = (p, r (sym (first-on (λ before x. test x) before x xs (suc i) p) ∙ e))
-
--- none is found: none passes, where the test looks at the entry alone
-pub first-none : {A : Type 0} (test : A → Bool) (xs : List A) → firstOf (λ before x. test x) xs ≡ 0 → All (λ x. test x ≡ false) xs
-unfolding firstOf
-first-none test xs e = none-in test [] xs 0 e
 
 -- ---- a loop that seeks it: i entries were passed
 

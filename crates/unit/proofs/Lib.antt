@@ -11,8 +11,6 @@ pub mod Shifts
 pub mod GroupsCut
 pub mod GroupsSplit
 pub mod GroupsHeld
-pub mod GroupsRepeat
-pub mod GroupsMasks
 pub mod ChoiceGather
 pub mod ChoiceStage
 pub mod Faults

@@ -3,13 +3,13 @@ use Prim.Native.Nat.{ℕ, suc, _+_, _-_, _*_, _%_, _^_, _≤_, _<_}
 use native.Mathlib.Omega.{arith}
 use native.Mathlib.Nat.{pow-suc, lt-of-lt-of-le, mul-comm}
 use mathlib.Core.Path.{_≡_, refl, sym, ap, ap₂, _∙_}
-use mathlib.Core.List.{List, [], _∷_}
+use mathlib.Core.List.{List, [], _∷_, map}
 use lib.Count.{ones}
 use lib.ListN.{length, getD, take, drop, set, length-set, length-drop, length-map}
 use lib.Pow.{pow-mono, shl-exact}
 use lib.Seq.{drop-cons, drop-length, length-take-le}
 use Rattle.lists.proofs.Mapped.{mapped-more}
-use Rattle.lists.proofs.Members.{map-map}
+use Rattle.lists.proofs.Members.{All, map-map, map-same}
 use Rattle.vectors.specs.declared.Kind.{Kind}
 use Rattle.vectors.specs.declared.Variable.{Variable}
 use Rattle.vectors.specs.Variable.{numberOf, maskOf, kindsOf}
@@ -26,10 +26,13 @@ unfolding numberBy numberOf
 number-masks [] x h = refl
 number-masks (k ∷ ks) x h = ap₂ (λ (a b : ℕ). a + 2 * b) (value-word maxInputs x k h) (number-masks ks x h)
 
-pub value-lt : (m x : ℕ) → valueBy m x < 2
+pub numbers-masks : (ks : List Kind) (vs : List ℕ) → All (λ v. v < 2 ^ maxInputs) vs → map (numberBy (masksOf ks)) vs ≡ map (numberOf ks) vs
+numbers-masks ks = map-same (numberBy (masksOf ks)) (numberOf ks) (λ v. v < 2 ^ maxInputs) (number-masks ks)
+
+value-lt : (m x : ℕ) → valueBy m x < 2
 value-lt m x = omega arith
 
-pub number-lt : (ms : List ℕ) (x : ℕ) → numberBy ms x < 2 ^ length ms
+number-lt : (ms : List ℕ) (x : ℕ) → numberBy ms x < 2 ^ length ms
 unfolding numberBy
 number-lt [] x = omega arith
 number-lt (m ∷ ms) x = rw (pow-suc 2 (length ms)) (omega (arith, number-lt ms x, value-lt m x))

@@ -5,14 +5,13 @@ ghost use Prim.Native.Nat.{suc, _^_, _≤_};
 ghost use mathlib.Core.Bool.{_||_};
 ghost use lib.Dec.{leb, ltb};
 ghost use lib.ListN.{length, take};
-ghost use Rattle.lists.specs.First.{firstOf, repeated};
+ghost use Rattle.lists.specs.First.{repeated};
 ghost use Rattle.vectors.specs.Variable as vars;
 ghost use Rattle.vectors.specs.Variable.{kindsOf, numberOf};
 ghost use Rattle.unit.specs.Bounds.{maxInputs, maxVectors, maxVariables};
 ghost use Rattle.unit.specs.Bounds as bounds;
 ghost use Rattle.unit.specs.Refusals.{firstBeyond, firstFaulty, ladder, listChecks, givenChecks, refuseIf};
 ghost use Rattle.unit.specs.Inner.Ready.{numbered};
-use crate::groups;
 use crate::span;
 use crate::variables;
 use vectors::Kind;
@@ -97,7 +96,7 @@ pub(crate) fn check_list(
     if beyond != 0 {
         return refuse(6, beyond);
     }
-    let equal = first_equal(n, vectors);
+    let equal = repeats::first_repeat(vectors);
     if equal != 0 {
         return refuse(7, equal);
     }
@@ -148,27 +147,16 @@ pub(crate) fn first_beyond(n: usize, vectors: &[u64]) -> usize
     0
 }
 
-// The number from 1 of the first vector that equals an earlier one; 0 for none.
-pub(crate) fn first_equal(n: usize, vectors: &[u64]) -> usize
-    requires { ⌜ (n ≤ maxInputs) × (length (now vectors) ≤ maxVectors) × (firstBeyond n (now vectors) ≡ 0) ⌝ }
-    ensures { λ r. ⌜ r ≡ repeated (now (vectors .entry)) ⌝ }
-{
-    let mut inputs = [0u64; 64];
-    let mut i = 0;
-    while i < n {
-        inputs[i] = 1u64 << i;
-        i += 1;
-    }
-    groups::first_repeat(vectors, &inputs[..n])
-}
-
 // The number from 1 of the first vector that agrees with an earlier one on every variable; 0 for none.
 pub(crate) fn first_alike(variables: [Variable; 24], p: usize, vectors: &[u64]) -> usize
     requires { ⌜ (p ≤ maxVariables) × (length (now vectors) ≤ maxVectors) ⌝ }
     ensures { λ r. ⌜ r ≡ repeated (map (numberOf (kindsOf (take p variables))) (now (vectors .entry))) ⌝ }
 {
+    let k = vectors.len();
     let masks = variables::masks(variables, p);
-    groups::first_repeat(vectors, &masks[..p])
+    let mut numbers = [0u64; 1024];
+    variables::numbers(&masks[..p], vectors, &mut numbers);
+    repeats::first_repeat(&numbers[..k])
 }
 
 // Whether a position is not 1 to n, or two are not rising. Less 1 a position 0 wraps past every n, so that one test finds

@@ -1,14 +1,9 @@
 // Groups of vectors that agree so far. A group with fewer than two members is dropped: nothing in it can be told apart any further.
-ghost use mathlib.Core.Path.{_≡_};
-ghost use mathlib.Core.List.{map};
 ghost use Prim.Native.Nat.{_+_, _≤_, _<_};
 ghost use lib.ListN.{length};
-ghost use Rattle.lists.specs.First.{repeated};
 ghost use Rattle.lists.proofs.Members.{All};
 ghost use Rattle.vectors.proofs.Choice.Groups.{part, refined, whole};
-ghost use Rattle.vectors.proofs.Choice.Repeats.{secondsMin};
 ghost use Rattle.unit.specs.Bounds.{maxVectors};
-ghost use Rattle.unit.specs.Inner.Masks.{numberBy};
 ghost use Rattle.unit.specs.Inner.Groups.{cut, groupsOf, valueAt, Cuts, Shape, GroupsAre, Listed, Room, Adds, Holds};
 use crate::variables;
 
@@ -162,48 +157,4 @@ pub(crate) fn refined(vectors: &[u64], mask: u64, groups: Groups) -> Groups
         members: at.members,
         count: at.count,
     }
-}
-
-// The smallest second member of the groups; k where there is no group.
-fn earliest(k: usize, order: &[u16], sizes: &[u16]) -> usize
-    requires { ⌜ Cuts k (now sizes) (now order) ⌝ }
-    ensures { λ r. ⌜ r ≡ secondsMin k (cut (now (sizes .entry)) (now (order .entry))) ⌝ }
-{
-    let mut first = k;
-    let mut from = 0;
-    let mut g = 0;
-    while g < sizes.len() {
-        let s = order[from + 1] as usize;
-        from += sizes[g] as usize;
-        g += 1;
-        if s < first {
-            first = s;
-        }
-    }
-    first
-}
-
-// The number from 1 of the first vector that agrees with an earlier one under every mask; 0 for none.
-pub(crate) fn first_repeat(vectors: &[u64], masks: &[u64]) -> usize
-    requires { ⌜ length (now vectors) ≤ maxVectors ⌝ }
-    ensures { λ r. ⌜ r ≡ repeated (map (numberBy (now (masks .entry))) (now (vectors .entry))) ⌝ }
-{
-    let k = vectors.len();
-    let mut groups = all(k);
-    let mut j = 0;
-    while j < masks.len() {
-        if groups.count == 0 {
-            return 0;
-        }
-        groups = refined(vectors, masks[j], groups);
-        j += 1;
-    }
-    let order = groups.order;
-    let sizes = groups.sizes;
-    let m = groups.members;
-    let q = groups.count;
-    if q == 0 {
-        return 0;
-    }
-    earliest(k, &order[..m], &sizes[..q]) + 1
 }

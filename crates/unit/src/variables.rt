@@ -1,6 +1,7 @@
 // Variables as masks of a word, their values, and the number that masks make of a word.
 ghost use mathlib.Core.Path.{_≡_};
 ghost use mathlib.Core.Bool.{false};
+ghost use mathlib.Core.List.{map};
 ghost use Prim.Native.Nat.{_*_, _%_, _^_, _≤_, _<_};
 ghost use lib.ListN.{length, take};
 ghost use Rattle.vectors.specs.Bits.{placeOf};
@@ -87,4 +88,16 @@ pub(crate) fn number(masks: &[u64], x: u64) -> u64
         r = r * 2 + value(masks[i], x);
     }
     r
+}
+
+// The number of each vector, from the front of out on.
+pub(crate) fn numbers(masks: &[u64], vectors: &[u64], out: &mut [u64])
+    requires { ⌜ (length (now masks) ≤ maxVariables) × (length (now vectors) ≤ length (now out)) ⌝ }
+    ensures { λ _. ⌜ take (length (now (vectors .entry))) (now (out .exit)) ≡ map (numberBy (now (masks .entry))) (now (vectors .entry)) ⌝ }
+{
+    let mut i = 0;
+    while i < vectors.len() {
+        out[i] = number(masks, vectors[i]);
+        i += 1;
+    }
 }

@@ -8,5 +8,3 @@ pub mod Steps
 pub mod Groups
 pub mod Grouped
 pub mod Squares
-pub mod Classed
-pub mod Repeats

@@ -3,6 +3,8 @@ use Prim.Native.Nat.{ℕ, _≤_}
 use mathlib.Core.Path.{_≡_, sym, ap, _∙_}
 use mathlib.Core.List.{List}
 use lib.ListN.{length, drop}
+use Rattle.lists.specs.First.{repeated}
+use Rattle.repeats.proofs.Limit.{few as few-words}
 use Rattle.unit.specs.Bounds.{maxInputs, maxVectors, outside}
 use Rattle.unit.specs.Refusals.{Refusal, ladder, refuseIf, listChecks}
 use Rattle.unit.specs.Inner.Ready.{numbered}
@@ -34,11 +36,15 @@ past5 c = past4 (c .before .before) ∙ if-no 4 _ _ (sym (c .before .too-short .
 past6 : (c : tie.Else6) → let s = c .before .before .before .before .before .before .before .before .before .before .before .before in ladder (rungs s) ≡ ladder (drop 6 (rungs s))
 past6 c = past5 (c .before .before) ∙ at-no 5 _ _ (sym (c .before .first-beyond .ensures) ∙ c .if6 .left)
 
-past7 : (c : tie.Else7) → let s = c .before .before .before .before .before .before .before .before .before .before .before .before .before .before in ladder (rungs s) ≡ ladder (drop 7 (rungs s))
-past7 c = past6 (c .before .before) ∙ at-no 6 _ _ (sym (c .before .first-equal .ensures) ∙ c .if7 .left)
-
 few : (c : tie.Else5) → (1 ≤ length (c .before .before .before .before .before .before .before .before .before .before .args .vectors .now)) × (length (c .before .before .before .before .before .before .before .before .before .before .args .vectors .now) ≤ maxVectors)
 few c = let d = c .before .before .before .before in in-bounds 1 maxVectors _ (sym (d .before .outside2 .ensures) ∙ d .if3 .left)
+
+-- the first vector that equals an earlier one
+equal : (c : tie.After-first-repeat) → c .first-repeat .result ≡ repeated (c .before .before .before .before .before .before .before .before .before .before .before .before .before .args .vectors .now)
+equal c = c .first-repeat .ensures ∙ few-words _ (few (c .before .before .before) .1)
+
+past7 : (c : tie.Else7) → let s = c .before .before .before .before .before .before .before .before .before .before .before .before .before .before in ladder (rungs s) ≡ ladder (drop 7 (rungs s))
+past7 c = past6 (c .before .before) ∙ at-no 6 _ _ (sym (equal (c .before)) ∙ c .if7 .left)
 
 -- n is 1 to 64
 inputs : (c : tie.Else5) → (1 ≤ c .before .before .before .before .before .before .before .before .before .before .args .n) × (c .before .before .before .before .before .before .before .before .before .before .args .n ≤ maxInputs)
@@ -98,17 +104,17 @@ returns-6 c =
     ap numbered (c .refuse6 .ensures) ∙ ap (λ (i : ℕ). record { number = 6; place = i }) (r .ensures)
     ∙ sym (past5 (c .before .before .before) ∙ at-yes 5 _ _ (λ e. c .before .if6 .taken (r .ensures ∙ e)))
 
-first-equal-requires : tie.Need-first-equal-requires
-first-equal-requires c κs = (inputs (c .before .before) .1, few (c .before .before) .1, sym (c .before .first-beyond .ensures) ∙ c .if6 .left)
+first-repeat-requires : tie.Need-first-repeat-requires
+first-repeat-requires c κs = search needs
 
 refuse-requires-7 : tie.Need-refuse-requires-7
 refuse-requires-7 c κs = search needs
 
 returns-7 : tie.Need-returns-7
 returns-7 c =
-    let r = c .before .before .first-equal in
-    ap numbered (c .refuse7 .ensures) ∙ ap (λ (i : ℕ). record { number = 7; place = i }) (r .ensures)
-    ∙ sym (past6 (c .before .before .before) ∙ at-yes 6 _ _ (λ e. c .before .if7 .taken (r .ensures ∙ e)))
+    let r = equal (c .before .before) in
+    ap numbered (c .refuse7 .ensures) ∙ ap (λ (i : ℕ). record { number = 7; place = i }) r
+    ∙ sym (past6 (c .before .before .before) ∙ at-yes 6 _ _ (λ e. c .before .if7 .taken (r ∙ e)))
 
 refuse-requires-8 : tie.Need-refuse-requires-8
 refuse-requires-8 c κs = search needs
@@ -138,7 +144,7 @@ check-list-spec =
     first-beyond-requires
     refuse-requires-6
     returns-6
-    first-equal-requires
+    first-repeat-requires
     refuse-requires-7
     returns-7
     refuse-requires-8

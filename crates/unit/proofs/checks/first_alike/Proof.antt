@@ -4,12 +4,14 @@ use Prim.Native.Nat.{ℕ, _<_, _^_}
 use native.Mathlib.Omega.{arith}
 use mathlib.Core.Path.{sym, ap, _∙_}
 use mathlib.Core.List.{List, map}
+use lib.ListN.{length-map}
 use lib.Seq.{length-take-le}
-use Rattle.lists.specs.First.{repeated}
 use Rattle.lists.proofs.Alls.{at-all}
+use Rattle.repeats.specs.Repeats.{repeatedIn}
+use Rattle.repeats.proofs.Limit.{few}
 use Rattle.unit.specs.Bounds.{maxInputs}
 use Rattle.unit.specs.Inner.Masks.{numberBy}
-use Rattle.unit.proofs.GroupsMasks.{numbers-masks}
+use Rattle.unit.proofs.Masks.{numbers-masks}
 use Rattle.unit.proofs.checks.first_alike.Statement.{statement}
 use Rattle.unit.proofs.checks.first_alike.Tie as tie
 
@@ -19,18 +21,35 @@ masks-requires c κs = search needs
 array-share-prefix-masks : tie.Need-array-share-prefix-masks
 array-share-prefix-masks c = search needs
 
+slice-aggregate-numbers : tie.Need-slice-aggregate-numbers
+slice-aggregate-numbers c = sym (length-take-le _ _ (omega (arith, c .before .masks .ok)))
+
+slice-aggregate-numbers-2 : tie.Need-slice-aggregate-numbers-2
+slice-aggregate-numbers-2 c = search needs
+
+numbers-requires : tie.Need-numbers-requires
+numbers-requires c κs =
+    let m = c .before .before .masks in
+    let s = c .before .before .before .before in
+    (omega (arith, length-take-le (s .args .p) (m .result) (omega (arith, m .ok))), omega (arith, s .pre .1))
+
+array-share-prefix-numbers : tie.Need-array-share-prefix-numbers
+array-share-prefix-numbers c = omega (arith, c .before .numbers2 .kept .1 .1 .0)
+
 slice-aggregate-first-repeat : tie.Need-slice-aggregate-first-repeat
-slice-aggregate-first-repeat c = sym (length-take-le _ _ (omega (arith, c .before .masks .ok)))
+slice-aggregate-first-repeat c = sym (length-take-le _ _ (omega (arith, c .before .before .numbers2 .kept .1 .1 .0)))
 
 first-repeat-requires : tie.Need-first-repeat-requires
 first-repeat-requires c κs = search needs
 
 returns : tie.Need-returns
 returns c =
-    let a = c .before .before .before .before .args in
-    let vs = a .vectors .now in
-    let f = at-all (λ v. v < 2 ^ maxInputs) vs 0 (λ i h. omega (arith, c .before .before .before .shared-slice-known .given i)) in
-    c .first-repeat .ensures ∙ ap repeated (ap (λ (ms : List ℕ). map (numberBy ms) vs) (c .before .before .masks .ensures) ∙ numbers-masks _ vs f)
+    let n = c .before .before .before in
+    let k = n .before .before .before .before in
+    let vs = k .before .args .vectors .now in
+    let f = at-all (λ v. v < 2 ^ maxInputs) vs 0 (λ i h. omega (arith, k .shared-slice-known .given i)) in
+    let m = ap (λ (ms : List ℕ). map (numberBy ms) vs) (n .before .before .before .masks .ensures) ∙ numbers-masks _ vs f in
+    c .first-repeat .ensures ∙ ap repeatedIn (n .numbers2 .ensures ∙ m) ∙ few _ (rw length-map (k .before .pre .1))
 
 pub first-alike-spec : {M : Type 1} → statement M
 first-alike-spec =
@@ -38,6 +57,10 @@ first-alike-spec =
     (tie.spec
     masks-requires
     array-share-prefix-masks
+    slice-aggregate-numbers
+    slice-aggregate-numbers-2
+    numbers-requires
+    array-share-prefix-numbers
     slice-aggregate-first-repeat
     first-repeat-requires
     returns)
