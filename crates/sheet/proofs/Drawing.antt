@@ -5,7 +5,7 @@ use native.Mathlib.Nat.{eq-or-lt-of-le}
 use mathlib.Core.Path.{_≡_, refl, sym, ap, _∙_}
 use mathlib.Core.List.{List, [], _∷_, append-nil}
 use mathlib.Core.Logic.{_⊎_, inl, inr}
-use lib.ListN.{length, getD, set, replicate, length-set, length-replicate, getD-replicate, drop-of-length-le}
+use lib.ListN.{length, getD, set, length-set, drop-of-length-le}
 use lib.Seq.{sets, sets-eq, getD-set-same, getD-set-other}
 use Rattle.vectors.specs.Bits.{bit}
 use Rattle.turn.specs.Turn.{column, columnsFrom, turned}

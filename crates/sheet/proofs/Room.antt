@@ -1,15 +1,16 @@
 -- Room for the items: how many there are at most. Assumes nothing.
-use Prim.Native.Nat.{ℕ, _+_, _*_, _≤_, _<_}
+use Prim.Native.Nat.{ℕ, zero, suc, _+_, _-_, _*_, _≤_, _<_}
 use native.Mathlib.Nat.{mul-le-mul-right}
 use native.Mathlib.Omega.{arith}
 use mathlib.Core.Path.{_≡_, refl}
-use mathlib.Core.List.{List, [], _∷_, map}
+use mathlib.Core.List.{List, [], _∷_, _++_, map}
 use mathlib.Core.Logic.{_⊎_, inl, inr}
 use lib.Bits.{bitXor}
-use lib.ListN.{length, length-append, length-map}
+use lib.ListN.{length, replicate, length-append, length-map}
 use Rattle.lists.proofs.Tests.{le-or-lt}
 use Rattle.vectors.proofs.Choice.Groups.{members}
 use Rattle.sheet.specs.Layout.{pairedMost, blocksOf, pairsOf, wholeItems, endsOf, pairItems, itemsOf, maxBlocks}
+use Rattle.sheet.specs.Gain.{wholeMost}
 use Rattle.sheet.specs.Best.{maxWords}
 use Rattle.sheet.proofs.Laid.{Small, Large, laid, padded-length, whole-length}
 
@@ -48,3 +49,18 @@ room gs h = omega (arith, items-few gs)
 -- the large groups' blocks among them
 pub ends-few : (gs : List (List ℕ)) → length (endsOf gs) ≤ blocksOf (length (itemsOf gs))
 ends-few gs = omega (arith, whole-length gs, length-append (wholeItems gs) (pairItems gs))
+
+-- the halves of the large groups are fewer than the members' square
+zeros-most : (m : ℕ) (es : List ℕ) → wholeMost (replicate m 0 ++ es) ≡ wholeMost es
+unfolding wholeMost
+zeros-most zero es = refl
+zeros-most (suc m) es = omega (arith, zeros-most m es)
+
+pub ends-most : (gs : List (List ℕ)) → wholeMost (endsOf gs) ≤ members gs * members gs
+unfolding members endsOf wholeMost
+ends-most [] = omega arith
+ends-most (g ∷ gs) = go (laid g gs) (ends-most gs)
+  where
+    go : Small g gs ⊎ Large g gs → wholeMost (endsOf gs) ≤ members gs * members gs → wholeMost (endsOf (g ∷ gs)) ≤ (length g + members gs) * (length g + members gs)
+    go (inl s) r = rw (s .ends) (omega arith)
+    go (inr s) r = rw (s .ends, zeros-most (blocksOf (length g) - 1) (length g ∷ endsOf gs)) (omega arith)

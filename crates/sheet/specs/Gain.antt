@@ -1,5 +1,5 @@
 -- How many pairs of a group's members a candidate tells apart, from the blocks' tallies.
-use Prim.Native.Nat.{ℕ, zero, suc, _+_, _-_, _*_, _≤_}
+use Prim.Native.Nat.{ℕ, zero, suc, _+_, _-_, _*_, _≤_, _/_}
 use mathlib.Core.Path.{_≡_}
 use mathlib.Core.Bool.{cond}
 use mathlib.Core.List.{List, [], _∷_}
@@ -31,3 +31,8 @@ Counts (e ∷ es) t w a = (e ≡ 0 → Counts es t (suc w) (a + t w)) × ((e ≡
 unfoldable pub pairGain : ℕ → (ℕ → ℕ) → ℕ → ℕ
 pairGain zero t w = 0
 pairGain (suc d) t w = t w + pairGain d t (suc w)
+
+-- what large groups have at most: halves
+unfoldable pub wholeMost : List ℕ → ℕ
+wholeMost [] = 0
+wholeMost (e ∷ es) = e * e / 4 + wholeMost es

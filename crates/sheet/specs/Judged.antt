@@ -2,15 +2,16 @@
 use Prim.Native.Nat.{ℕ, zero, suc, _+_, _-_, _*_, _^_, _≤_, _<_}
 use mathlib.Core.Path.{_≡_}
 use mathlib.Core.List.{List}
-use mathlib.Core.Bool.{false}
+use mathlib.Core.Bool.{true, false}
 use lib.Bits.{bitXor}
 use lib.Count.{ones}
 use lib.ListN.{length, getD}
 use Rattle.vectors.specs.declared.Kind.{Kind}
 use Rattle.vectors.specs.Variable.{faulty}
+use Rattle.sheet.specs.declared.judge.Large.{Large}
 use Rattle.sheet.specs.declared.search.Best.{Best}
 use Rattle.sheet.specs.Layout.{maxBlocks, block, columnOf, first, second}
-use Rattle.sheet.specs.Gain.{wholeGain, pairGain, Counts}
+use Rattle.sheet.specs.Gain.{wholeGain, wholeMost, pairGain, Counts}
 use Rattle.sheet.specs.Best.{maxInputs}
 
 -- above what any candidate tells apart
@@ -44,7 +45,7 @@ gainAt columns ends blocks i j =
     wholeGain ends t 0 0 + pairGain (blocks - length ends) t (length ends)
 
 -- what judging inputs i and j needs
-pub record Sheet (columns ends : List ℕ) (blocks i j : ℕ) : Type 0 where
+pub record Sheet (columns ends : List ℕ) (blocks most i j : ℕ) : Type 0 where
   pub size : length columns ≡ columnsSize
   pub whole : length ends ≤ blocks
   pub fit : blocks ≤ maxBlocks
@@ -52,10 +53,13 @@ pub record Sheet (columns ends : List ℕ) (blocks i j : ℕ) : Type 0 where
   pub second-in : j ≤ maxInputs
   pub counts : Counts ends (tallyAt columns (maxBlocks * i) (maxBlocks * j)) 0 0
   pub low : gainAt columns ends blocks i j ≤ maxGain
+  pub pairs-low : pairGain (blocks - length ends) (tallyAt columns (maxBlocks * i) (maxBlocks * j)) (length ends) ≤ 64 * (blocks - length ends)
+  pub most-is : most ≡ wholeMost ends
+  pub most-low : most ≤ maxGain
 
 -- every candidate of n inputs can be judged
-abbrev pub Sheets : List ℕ → List ℕ → ℕ → ℕ → Type 0
-Sheets columns ends blocks n = (k : Kind) → faulty n k ≡ false → Sheet columns ends blocks (first k) (second k)
+abbrev pub Sheets : List ℕ → List ℕ → ℕ → ℕ → ℕ → Type 0
+Sheets columns ends blocks most n = (k : Kind) → faulty n k ≡ false → Sheet columns ends blocks most (first k) (second k)
 
 -- the less a candidate leaves, the more it tells apart
 abbrev pub leftBy : List ℕ → List ℕ → ℕ → Kind → ℕ
@@ -64,3 +68,13 @@ leftBy columns ends blocks k = maxGain - gainAt columns ends blocks (first k) (s
 -- a candidate with what it leaves
 abbrev pub judged : (Kind → ℕ) → Kind → Best
 judged f k = record { kind = k; left = f k }
+
+-- what the large groups give, or that with the pairs of the small ones they do not come above beat
+pub record WholeIs (exact pairs beat : ℕ) (r : Large) : Type 0 where
+  pub is : r .hopeless ≡ false → r .gain ≡ exact
+  pub low : r .hopeless ≡ true → exact + pairs ≤ beat
+
+-- above beat a judgement is exact, and up to beat it says that no more is right
+pub record Judges (exact beat r : ℕ) : Type 0 where
+  pub above : beat < r → r ≡ exact
+  pub below : r ≤ beat → exact ≤ beat

@@ -1,12 +1,12 @@
 // How many pairs of members a candidate tells apart, from the columns of its inputs.
 ghost use mathlib.Core.Path.{_≡_};
-ghost use Prim.Native.Nat.{_+_, _-_, _*_, _≤_};
+ghost use Prim.Native.Nat.{_+_, _-_, _^_, _≤_};
 ghost use lib.Bits.{bitXor};
 ghost use lib.Count as count;
 ghost use lib.ListN.{length};
 ghost use Rattle.sheet.specs.Layout.{maxBlocks};
-ghost use Rattle.sheet.specs.Gain.{wholeGain, pairGain, Counts};
-ghost use Rattle.sheet.specs.Judged.{maxGain, tallyAt, gainAt, Sheet};
+ghost use Rattle.sheet.specs.Gain.{wholeGain, wholeMost, pairGain, Counts};
+ghost use Rattle.sheet.specs.Judged.{maxGain, tallyAt, gainAt, Sheet, WholeIs, Judges};
 
 // The ones of a block in the XOR of two columns.
 fn ones(a: u64, b: u64) -> u64
@@ -15,15 +15,46 @@ fn ones(a: u64, b: u64) -> u64
     u64::count_ones(a ^ b) as u64
 }
 
-// Of the large groups: a block's tally is added to its group's, and the group counts where it ends.
-fn whole(columns: &[u64], ends: &[u16], a: usize, b: usize) -> u64
+// What the large groups tell apart; hopeless where that was given up, since the best so far cannot be passed any more.
+struct Large {
+    gain: u64,
+    hopeless: bool,
+}
+
+// At most so many pairs are told apart in groups of these sizes: halves.
+pub(crate) fn most(ends: &[u16]) -> u64
+    requires { ⌜ length (now ends) ≤ maxBlocks ⌝ }
+    ensures { λ r. ⌜ r ≡ wholeMost (now (ends .entry)) ⌝ }
+{
+    let mut sum: u64 = 0;
+    let mut w = 0;
+    while w < ends.len() {
+        let size = ends[w] as u64;
+        sum += size * size / 4;
+        w += 1;
+    }
+    sum
+}
+
+// Of the large groups: a block's tally is added to its group's, and the group counts where it ends. Most is what they have at most,
+// pairs what the small ones have; given up where all that is left does not come above beat.
+fn whole(
+    columns: &[u64],
+    ends: &[u16],
+    a: usize,
+    b: usize,
+    most: u64,
+    pairs: u64,
+    beat: u64,
+) -> Large
     requires { ⌜ (a + maxBlocks ≤ length (now columns)) × (b + maxBlocks ≤ length (now columns)) × (length (now ends) ≤ maxBlocks) ⌝ }
     requires { ⌜ Counts (now ends) (tallyAt (now columns) a b) 0 0 ⌝ }
-    requires { ⌜ wholeGain (now ends) (tallyAt (now columns) a b) 0 0 ≤ maxGain ⌝ }
-    ensures { λ r. ⌜ r ≡ wholeGain (now (ends .entry)) (tallyAt (now (columns .entry)) a b) 0 0 ⌝ }
+    requires { ⌜ (wholeGain (now ends) (tallyAt (now columns) a b) 0 0 ≤ maxGain) × (most ≡ wholeMost (now ends)) × (most + pairs ≤ 2 ^ 40) ⌝ }
+    ensures { λ r. ⌜ WholeIs (wholeGain (now (ends .entry)) (tallyAt (now (columns .entry)) a b) 0 0) pairs beat r ⌝ }
 {
     let mut gain: u64 = 0;
     let mut counted: u64 = 0;
+    let mut room = most + pairs;
     let mut w = 0;
     while w < ends.len() {
         counted += ones(columns[a + w], columns[b + w]);
@@ -31,10 +62,20 @@ fn whole(columns: &[u64], ends: &[u16], a: usize, b: usize) -> u64
         w += 1;
         if size != 0 {
             gain += counted * (size - counted);
+            room -= size * size / 4;
             counted = 0;
+            if gain + room <= beat {
+                return Large {
+                    gain,
+                    hopeless: true,
+                };
+            }
         }
     }
-    gain
+    Large {
+        gain,
+        hopeless: false,
+    }
 }
 
 // Of the small groups, whose pairs fill the blocks from w on: a pair with value 1 is told apart.
@@ -51,12 +92,25 @@ fn paired(columns: &[u64], a: usize, b: usize, from: usize, to: usize) -> u64
     gain
 }
 
-// The pairs that the XOR of inputs i and j tells apart; input 0 is none.
-pub(crate) fn gain(columns: &[u64], ends: &[u16], blocks: usize, i: u8, j: u8) -> u64
-    requires { ⌜ Sheet (now columns) (now ends) blocks i j ⌝ }
-    ensures { λ r. ⌜ r ≡ gainAt (now (columns .entry)) (now (ends .entry)) blocks i j ⌝ }
+// The pairs that the XOR of inputs i and j tells apart, input 0 being none; or some number up to beat, where they are not more.
+pub(crate) fn gain(
+    columns: &[u64],
+    ends: &[u16],
+    blocks: usize,
+    most: u64,
+    i: u8,
+    j: u8,
+    beat: u64,
+) -> u64
+    requires { ⌜ Sheet (now columns) (now ends) blocks most i j ⌝ }
+    ensures { λ r. ⌜ Judges (gainAt (now (columns .entry)) (now (ends .entry)) blocks i j) beat r ⌝ }
 {
     let a = 88 * i as usize;
     let b = 88 * j as usize;
-    whole(columns, ends, a, b) + paired(columns, a, b, ends.len(), blocks)
+    let pairs = 64 * (blocks - ends.len()) as u64;
+    let large = whole(columns, ends, a, b, most, pairs, beat);
+    if large.hopeless {
+        return 0;
+    }
+    large.gain + paired(columns, a, b, ends.len(), blocks)
 }

@@ -26,5 +26,6 @@ pub fn best(words: &[u64], sizes: &[u16], n: u8, degree: usize) -> Kind
     let blocks = (laid.items + 63) / 64;
     let mut columns = [1u64; 5720];
     draw::draw(&items, blocks, &mut columns);
-    search::best_of(&columns, &ends[..whole], blocks, n, degree)
+    let most = judge::most(&ends[..whole]);
+    search::best_of(&columns, &ends[..whole], blocks, most, n, degree)
 }

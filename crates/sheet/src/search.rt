@@ -22,78 +22,98 @@ fn better(
     columns: &[u64],
     ends: &[u16],
     blocks: usize,
+    most: u64,
     n: u8,
     kind: Kind,
     i: u8,
     j: u8,
     best: Best,
 ) -> Best
-    requires { ⌜ Sheets (now columns) (now ends) blocks n × (faulty n kind ≡ false) × (i ≡ first kind) × (j ≡ second kind) ⌝ }
+    requires { ⌜ Sheets (now columns) (now ends) blocks most n × (faulty n kind ≡ false) × (i ≡ first kind) × (j ≡ second kind) ⌝ }
     requires { ⌜ best ≡ judged (leftBy (now columns) (now ends) blocks) (best .kind) ⌝ }
     ensures { λ r. ⌜ r ≡ judged (leftBy (now (columns .entry)) (now (ends .entry)) blocks) (loops.better (leftBy (now (columns .entry)) (now (ends .entry)) blocks) (best .kind) kind) ⌝ }
 {
-    let left = 1048576 - judge::gain(columns, ends, blocks, i, j);
-    if left < best.left {
-        Best { kind, left }
+    let beat = 1048576 - best.left;
+    let gain = judge::gain(columns, ends, blocks, most, i, j, beat);
+    if beat < gain {
+        Best {
+            kind,
+            left: 1048576 - gain,
+        }
     } else {
         best
     }
 }
 
 // The candidates of one input after x_1.
-fn best_one(columns: &[u64], ends: &[u16], blocks: usize, n: u8, best: Best) -> Best
-    requires { ⌜ (n ≤ maxInputs) × Sheets (now columns) (now ends) blocks n × (best ≡ judged (leftBy (now columns) (now ends) blocks) (best .kind)) ⌝ }
+fn best_one(columns: &[u64], ends: &[u16], blocks: usize, most: u64, n: u8, best: Best) -> Best
+    requires { ⌜ (n ≤ maxInputs) × Sheets (now columns) (now ends) blocks most n × (best ≡ judged (leftBy (now columns) (now ends) blocks) (best .kind)) ⌝ }
     ensures { λ r. ⌜ r ≡ judged (leftBy (now (columns .entry)) (now (ends .entry)) blocks) (fewest (leftBy (now (columns .entry)) (now (ends .entry)) blocks) (best .kind) (ones (n - 1) 2)) ⌝ }
 {
     let mut b = best;
     let mut i: u8 = 2;
     while i <= n {
-        b = better(columns, ends, blocks, n, Kind::One(i), 0, i, b);
+        b = better(columns, ends, blocks, most, n, Kind::One(i), 0, i, b);
         i += 1;
     }
     b
 }
 
 // The pairs of x_i with each later input.
-fn best_two_at(columns: &[u64], ends: &[u16], blocks: usize, n: u8, i: u8, best: Best) -> Best
-    requires { ⌜ (n ≤ maxInputs) × (0 < i) × (i ≤ n) × Sheets (now columns) (now ends) blocks n × (best ≡ judged (leftBy (now columns) (now ends) blocks) (best .kind)) ⌝ }
+fn best_two_at(
+    columns: &[u64],
+    ends: &[u16],
+    blocks: usize,
+    most: u64,
+    n: u8,
+    i: u8,
+    best: Best,
+) -> Best
+    requires { ⌜ (n ≤ maxInputs) × (0 < i) × (i ≤ n) × Sheets (now columns) (now ends) blocks most n × (best ≡ judged (leftBy (now columns) (now ends) blocks) (best .kind)) ⌝ }
     ensures { λ r. ⌜ r ≡ judged (leftBy (now (columns .entry)) (now (ends .entry)) blocks) (fewest (leftBy (now (columns .entry)) (now (ends .entry)) blocks) (best .kind) (twosAt (n - i) i (i + 1))) ⌝ }
 {
     let mut b = best;
     let mut j = i + 1;
     while j <= n {
-        b = better(columns, ends, blocks, n, Kind::Two(i, j), i, j, b);
+        b = better(columns, ends, blocks, most, n, Kind::Two(i, j), i, j, b);
         j += 1;
     }
     b
 }
 
 // All pairs, (1,2) to (n-1,n).
-fn best_two(columns: &[u64], ends: &[u16], blocks: usize, n: u8, best: Best) -> Best
-    requires { ⌜ (n ≤ maxInputs) × Sheets (now columns) (now ends) blocks n × (best ≡ judged (leftBy (now columns) (now ends) blocks) (best .kind)) ⌝ }
+fn best_two(columns: &[u64], ends: &[u16], blocks: usize, most: u64, n: u8, best: Best) -> Best
+    requires { ⌜ (n ≤ maxInputs) × Sheets (now columns) (now ends) blocks most n × (best ≡ judged (leftBy (now columns) (now ends) blocks) (best .kind)) ⌝ }
     ensures { λ r. ⌜ r ≡ judged (leftBy (now (columns .entry)) (now (ends .entry)) blocks) (fewest (leftBy (now (columns .entry)) (now (ends .entry)) blocks) (best .kind) (twos n 1)) ⌝ }
 {
     let mut b = best;
     let mut i: u8 = 1;
     while i <= n {
-        b = best_two_at(columns, ends, blocks, n, i, b);
+        b = best_two_at(columns, ends, blocks, most, n, i, b);
         i += 1;
     }
     b
 }
 
 // The first of the candidates that leaves the least.
-pub(crate) fn best_of(columns: &[u64], ends: &[u16], blocks: usize, n: u8, degree: usize) -> Kind
-    requires { ⌜ (0 < n) × (n ≤ maxInputs) × Sheets (now columns) (now ends) blocks n ⌝ }
+pub(crate) fn best_of(
+    columns: &[u64],
+    ends: &[u16],
+    blocks: usize,
+    most: u64,
+    n: u8,
+    degree: usize,
+) -> Kind
+    requires { ⌜ (0 < n) × (n ≤ maxInputs) × Sheets (now columns) (now ends) blocks most n ⌝ }
     ensures { λ r. ⌜ r ≡ bestOf (leftBy (now (columns .entry)) (now (ends .entry)) blocks) (candidates n degree) ⌝ }
 {
     let first = Best {
         kind: Kind::One(1),
-        left: 1048576 - judge::gain(columns, ends, blocks, 0, 1),
+        left: 1048576 - judge::gain(columns, ends, blocks, most, 0, 1, 0),
     };
-    let b = best_one(columns, ends, blocks, n, first);
+    let b = best_one(columns, ends, blocks, most, n, first);
     if degree == 2 {
-        let c = best_two(columns, ends, blocks, n, b);
+        let c = best_two(columns, ends, blocks, most, n, b);
         c.kind
     } else {
         b.kind

@@ -1,6 +1,7 @@
 -- `sheet::best` meets its contract. Assumes nothing.
 use borrow.Author.Needs.{needs}
 use borrow.Author.Tests.{not-true, not-false}
+use native.Mathlib.Omega.{arith}
 use mathlib.Core.Path.{_≡_, refl, sym, ap, _∙_}
 use mathlib.Core.Bool.{true}
 use lib.ListN.{length}
@@ -46,27 +47,36 @@ slice-aggregate-draw-2 c = search needs
 draw-requires : tie.Need-draw-requires
 draw-requires c κs = search needs
 
-slice-aggregate-best-of : tie.Need-slice-aggregate-best-of
-slice-aggregate-best-of c = search needs
-
 array-share-prefix-ends : tie.Need-array-share-prefix-ends
 array-share-prefix-ends c = search needs
 
+slice-aggregate-most : tie.Need-slice-aggregate-most
+slice-aggregate-most c = let o = c .before .before .before .before .before .before .before .before .lay .ensures in o .whole-is ∙ sym (ap length (o .ends-are))
+
+most-requires : tie.Need-most-requires
+most-requires c κs =
+    let o = c .before .before .before .before .before .before .before .before .lay .ensures in
+    omega (arith, o .whole-is, o .whole-few, ap length (o .ends-are))
+
+slice-aggregate-best-of : tie.Need-slice-aggregate-best-of
+slice-aggregate-best-of c = search needs
+
+array-share-prefix-ends-2 : tie.Need-array-share-prefix-ends-2
+array-share-prefix-ends-2 c = search needs
+
 slice-aggregate-best-of-2 : tie.Need-slice-aggregate-best-of-2
-slice-aggregate-best-of-2 c =
-    let o = c .before .before .before .before .before .before .before .before .before .lay .ensures in
-    o .whole-is ∙ sym (ap length (o .ends-are))
+slice-aggregate-best-of-2 c = let o = c .before .before .before .before .before .before .before .before .before .before .before .lay .ensures in o .whole-is ∙ sym (ap length (o .ends-are))
 
 best-of-requires : tie.Need-best-of-requires
 best-of-requires c κs =
-    let e = passed (c .before .before .before .before .before .before .before .before .before .before .before .before) in
-    let s = known (c .before .before .before .before .before .before .before .before .before .before .before .before) in
-    (s .some, s .inputs, made-sheets _ _ _ _ _ _ _ e (c .before .before .before .before .before .before .before .before .before .lay .ensures) (c .before .before .before .draw .ensures))
+    let e = c .before .before .before .before .before .before .before .before .before .before .before .before .before .before in
+    let s = known e in
+    (s .some, s .inputs, rw (c .before .before .most .ensures) (made-sheets _ _ _ _ _ _ _ (passed e) (c .before .before .before .before .before .before .before .before .before .before .before .lay .ensures) (c .before .before .before .before .before .draw .ensures)))
 
 returns-2 : tie.Need-returns-2
 returns-2 c =
     let b = c .before in
-    c .best-of .ensures ∙ made-best _ _ _ _ _ _ _ (passed (b .before .before .before .before .before .before .before .before .before .before .before .before)) (b .before .before .before .before .before .before .before .before .before .lay .ensures) (b .before .before .before .draw .ensures) _
+    c .best-of .ensures ∙ made-best _ _ _ _ _ _ _ (passed (b .before .before .before .before .before .before .before .before .before .before .before .before .before .before)) (b .before .before .before .before .before .before .before .before .before .before .before .lay .ensures) (b .before .before .before .before .before .draw .ensures) _
 
 pub best-spec : {M : Type 1} → statement M
 best-spec =
@@ -81,8 +91,11 @@ best-spec =
     slice-aggregate-draw
     slice-aggregate-draw-2
     draw-requires
-    slice-aggregate-best-of
     array-share-prefix-ends
+    slice-aggregate-most
+    most-requires
+    slice-aggregate-best-of
+    array-share-prefix-ends-2
     slice-aggregate-best-of-2
     best-of-requires
     returns-2)

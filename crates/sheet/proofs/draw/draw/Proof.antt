@@ -1,10 +1,8 @@
 -- `sheet::draw::draw` meets its contract. Assumes nothing.
 use borrow.Author.Needs.{needs}
-use Prim.Native.Nat.{ℕ, _+_, _-_, _*_, _≤_}
+use Prim.Native.Nat.{_+_, _-_, _*_, _≤_}
 use native.Mathlib.Omega.{arith}
-use mathlib.Core.Path.{_≡_, sym, ap, _∙_}
-use lib.ListN.{length, length-replicate}
-use Rattle.sheet.specs.Judged.{columnsSize}
+use mathlib.Core.Path.{_≡_, sym, _∙_}
 use Rattle.sheet.proofs.Drawing.{Drawing, drawing-none, drawing-more, drawing-end}
 use Rattle.sheet.proofs.draw.draw.Statement.{statement}
 use Rattle.sheet.proofs.draw.draw.Tie as tie

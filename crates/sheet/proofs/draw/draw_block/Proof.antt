@@ -1,6 +1,6 @@
 -- `sheet::draw::draw_block` meets its contract. Assumes nothing.
 use borrow.Author.Needs.{needs}
-use mathlib.Core.Path.{_≡_, sym, ap, _∙_}
+use mathlib.Core.Path.{sym, ap, _∙_}
 use lib.ListN.{length}
 use Rattle.turn.specs.Turn.{turned}
 use Rattle.sheet.proofs.Drawing.{turned-many, stored-whole}

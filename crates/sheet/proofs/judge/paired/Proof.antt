@@ -2,7 +2,7 @@
 use Prim.Native.Nat.{_-_}
 use native.Mathlib.Omega.{arith}
 use Rattle.sheet.specs.Judged.{tallyAt}
-use Rattle.sheet.proofs.Judging.{Pairing, pairing-start, pairing-on, pairing-all}
+use Rattle.sheet.proofs.Judging.{Pairing, pairing-on, pairing-all}
 use borrow.Author.Needs.{needs}
 use Rattle.sheet.proofs.judge.paired.Statement.{statement}
 use Rattle.sheet.proofs.judge.paired.Tie as tie

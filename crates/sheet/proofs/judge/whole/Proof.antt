@@ -1,21 +1,28 @@
 -- `sheet::judge::whole` meets its contract. Assumes nothing.
-use Prim.Native.Nat.{_-_}
+use Prim.Native.Nat.{_-_, _<_}
 use native.Mathlib.Omega.{arith}
-use lib.ListN.{length}
+use mathlib.Core.Bool.{true, false, true≢false}
+use mathlib.Core.Path.{sym}
+use lib.ListN.{length, getD}
 use Rattle.sheet.specs.Judged.{tallyAt}
-use Rattle.sheet.proofs.Judging.{Tallying, tallying-start, tallying-on, tallying-end, tallying-all, ends-high, ends-low}
+use Rattle.sheet.proofs.Judging.{Hoping, hoping-start, hoping-on, hoping-end, hopeless, room-here, tallying-all, ends-high, ends-low, square-low}
 use borrow.Author.Needs.{needs}
 use Rattle.sheet.proofs.judge.whole.Statement.{statement}
 use Rattle.sheet.proofs.judge.whole.Tie as tie
 
 abbrev Inv-loop : tie.InvT-loop
-Inv-loop columns ends a b gain₀ counted₀ w₀ gain counted w = Tallying ends (tallyAt columns a b) gain counted w
+Inv-loop columns ends a b most pairs beat gain₀ counted₀ room₀ w₀ gain counted room w = Hoping ends (tallyAt columns a b) pairs gain counted room w
 
 abbrev μ-loop : tie.MeasureT-loop
-μ-loop columns ends a b gain₀ counted₀ w₀ gain counted w = length ends - w
+μ-loop columns ends a b most pairs beat gain₀ counted₀ room₀ w₀ gain counted room w = length ends - w
+
+add-room : tie.Need-add-room Inv-loop μ-loop
+add-room c = omega (arith, c .before .before .pre .1 .1 .2)
 
 loop-holds : tie.Need-loop-holds Inv-loop μ-loop
-loop-holds c = search needs
+loop-holds c =
+    let p = c .before .before .pre in
+    hoping-start _ _ _ _ (p .1 .1 .1) (p .1 .1 .2) (p .1 .0)
 
 add-ones : tie.Need-add-ones Inv-loop μ-loop
 add-ones c = search needs
@@ -54,28 +61,44 @@ add-w : tie.Need-add-w Inv-loop μ-loop
 add-w c = search needs
 
 sub-gain : tie.Need-sub-gain Inv-loop μ-loop
-sub-gain c = ends-high _ _ _ _ _ _ (omega arith) (c .before .before .ones .ensures .0) (c .before .before .before .before .before .before .loop .inv) (c .if1 .taken)
+sub-gain c = ends-high _ _ _ _ _ _ (omega arith) (c .before .before .ones .ensures .0) (c .before .before .before .before .before .before .loop .inv .tallying) (c .if1 .taken)
 
 mul-gain : tie.Need-mul-gain Inv-loop μ-loop
-mul-gain c = omega (arith, ends-low _ _ _ _ _ _ (omega arith) (c .before .before .ones .ensures .0) (c .before .before .before .before .before .before .loop .inv) (c .if1 .taken), c .before .before .before .before .before .before .before .before .before .pre)
+mul-gain c = omega (arith, ends-low _ _ _ _ _ _ (omega arith) (c .before .before .ones .ensures .0) (c .before .before .before .before .before .before .loop .inv .tallying) (c .if1 .taken), c .before .before .before .before .before .before .before .before .before .pre)
 
 add-gain : tie.Need-add-gain Inv-loop μ-loop
-add-gain c = omega (arith, ends-low _ _ _ _ _ _ (omega arith) (c .before .before .ones .ensures .0) (c .before .before .before .before .before .before .loop .inv) (c .if1 .taken), c .before .before .before .before .before .before .before .before .before .pre)
+add-gain c = omega (arith, ends-low _ _ _ _ _ _ (omega arith) (c .before .before .ones .ensures .0) (c .before .before .before .before .before .before .loop .inv .tallying) (c .if1 .taken), c .before .before .before .before .before .before .before .before .before .pre)
+
+mul-room : tie.Need-mul-room Inv-loop μ-loop
+mul-room c =
+    let ends = c .before .before .before .before .before .before .before .before .before .args .ends .now in
+    let w = c .before .before .before .before .before .before .loop .w in
+    let h : getD ends w 0 < 65536 = omega (arith, c .before .shared-slice-known5 .given w) in
+    omega (arith, square-low (getD ends w 0) h)
+
+sub-room : tie.Need-sub-room Inv-loop μ-loop
+sub-room c = room-here _ _ _ _ _ _ _ _ (omega arith) (c .before .before .ones .ensures .0) (c .before .before .before .before .before .before .loop .inv)
+
+add-if2 : tie.Need-add-if2 Inv-loop μ-loop
+add-if2 c = omega (arith, ends-low _ _ _ _ _ _ (omega arith) (c .before .before .ones .ensures .0) (c .before .before .before .before .before .before .loop .inv .tallying) (c .if1 .taken), c .before .before .before .before .before .before .before .before .before .pre, hoping-end _ _ _ _ _ _ _ _ (omega arith) (c .before .before .ones .ensures .0) (c .before .before .before .before .before .before .loop .inv) (c .if1 .taken) .low)
+
+returns : tie.Need-returns Inv-loop μ-loop
+returns c = record { is = λ e. absurd (true≢false e); low = λ e. hopeless _ _ _ _ _ _ _ _ (omega arith) (c .before .before .before .ones .ensures .0) (c .before .before .before .before .before .before .before .loop .inv) (c .before .if1 .taken) _ (c .if2 .taken) }
 
 loop-less : tie.Need-loop-less Inv-loop μ-loop
 loop-less c = search needs
 
 loop-again : tie.Need-loop-again Inv-loop μ-loop
-loop-again c = tallying-end _ _ _ _ _ _ (omega arith) (c .before .before .ones .ensures .0) (c .before .before .before .before .before .before .loop .inv) (c .if1 .taken)
+loop-again c = hoping-end _ _ _ _ _ _ _ _ (omega arith) (c .before .before .before .ones .ensures .0) (c .before .before .before .before .before .before .before .loop .inv) (c .before .if1 .taken)
 
 loop-less-2 : tie.Need-loop-less-2 Inv-loop μ-loop
 loop-less-2 c = search needs
 
 loop-again-2 : tie.Need-loop-again-2 Inv-loop μ-loop
-loop-again-2 c = tallying-on _ _ _ _ _ _ (omega arith) (c .before .before .ones .ensures .0) (c .before .before .before .before .before .before .loop .inv) (c .if1 .left) (c .before .before .ones .ensures .1)
+loop-again-2 c = hoping-on _ _ _ _ _ _ _ _ (omega arith) (c .before .before .ones .ensures .0) (c .before .before .before .before .before .before .loop .inv) (c .if1 .left) (c .before .before .ones .ensures .1)
 
-returns : tie.Need-returns Inv-loop μ-loop
-returns c = tallying-all _ _ _ _ _ (omega arith) (c .before .loop .inv)
+returns-2 : tie.Need-returns-2 Inv-loop μ-loop
+returns-2 c = record { is = λ e. tallying-all _ _ _ _ _ (omega arith) (c .before .loop .inv .tallying); low = λ e. absurd (true≢false (sym e)) }
 
 pub whole-spec : {M : Type 1} → statement M
 whole-spec =
@@ -83,6 +106,7 @@ whole-spec =
     (tie.spec
     Inv-loop
     μ-loop
+    add-room
     loop-holds
     add-ones
     mul-ones
@@ -99,8 +123,12 @@ whole-spec =
     sub-gain
     mul-gain
     add-gain
+    mul-room
+    sub-room
+    add-if2
+    returns
     loop-less
     loop-again
     loop-less-2
     loop-again-2
-    returns)
+    returns-2)

@@ -1,30 +1,29 @@
 -- `sheet::search::best_of` meets its contract. Assumes nothing.
-use borrow.Author.Needs.{needs}
 use Prim.Native.Nat.{ℕ}
 use native.Mathlib.Omega.{arith}
 use mathlib.Core.Path.{refl, ap}
 use Rattle.vectors.specs.declared.Kind.the-variants.{One}
 use Rattle.sheet.specs.Judged.{Sheet, leftBy}
 use Rattle.vectors.proofs.Choice.Candidates.{one-sound}
-use Rattle.sheet.proofs.Judging.{left-is}
+use Rattle.sheet.proofs.Judging.{left-is, judges-first}
 use Rattle.sheet.proofs.Searching.{own-of, all-one, all-two}
 use Rattle.sheet.proofs.search.best_of.Statement.{statement}
 use Rattle.sheet.proofs.search.best_of.Tie as tie
 
 -- the sheet serves x_1
-first-served : (c : tie.Start) → Sheet (c .args .columns .now) (c .args .ends .now) (c .args .blocks) 0 1
+first-served : (c : tie.Start) → Sheet (c .args .columns .now) (c .args .ends .now) (c .args .blocks) (c .args .most) 0 1
 first-served c = c .pre .2 (One 1) (one-sound (c .args .n) 1 (omega arith) (c .pre .0))
 
 gain-requires : tie.Need-gain-requires
 gain-requires c κs = first-served (c .before .before)
 
-sub-t11 : tie.Need-sub-t11
-sub-t11 c = omega (arith, c .gain .ensures, first-served (c .before .before .before) .low)
+sub-t12 : tie.Need-sub-t12
+sub-t12 c = omega (arith, judges-first _ _ (c .gain .ensures), first-served (c .before .before .before) .low)
 
 best-one-requires : tie.Need-best-one-requires
 best-one-requires c κs =
     let p = c .before .before .before .pre in
-    (p .1, p .2, ap (λ (s : ℕ). record { kind = One 1; left = s }) (left-is _ _ _ (One 1) _ _ _ refl refl (c .gain .ensures)))
+    (p .1, p .2, ap (λ (s : ℕ). record { kind = One 1; left = s }) (left-is _ _ _ (One 1) _ _ _ refl refl (judges-first _ _ (c .gain .ensures))))
 
 best-two-requires : tie.Need-best-two-requires
 best-two-requires c κs =
@@ -44,4 +43,4 @@ returns-2 c =
 
 pub best-of-spec : {M : Type 1} → statement M
 best-of-spec =
-    tie.close (tie.spec gain-requires sub-t11 best-one-requires best-two-requires returns returns-2)
+    tie.close (tie.spec gain-requires sub-t12 best-one-requires best-two-requires returns returns-2)

@@ -12,10 +12,10 @@ use Rattle.sheet.proofs.search.best_one.Statement.{statement}
 use Rattle.sheet.proofs.search.best_one.Tie as tie
 
 abbrev Inv-loop : tie.InvT-loop
-Inv-loop columns ends blocks n b₀ i₀ b i = (0 < i) × (i ≤ n + 2) × Trying (leftBy columns ends blocks) (fewest (leftBy columns ends blocks) (b₀ .kind) (ones (n - 1) 2)) b (ones (n + 1 - i) i)
+Inv-loop columns ends blocks most n b₀ i₀ b i = (0 < i) × (i ≤ n + 2) × Trying (leftBy columns ends blocks) (fewest (leftBy columns ends blocks) (b₀ .kind) (ones (n - 1) 2)) b (ones (n + 1 - i) i)
 
 abbrev μ-loop : tie.MeasureT-loop
-μ-loop columns ends blocks n b₀ i₀ b i = n + 1 - i
+μ-loop columns ends blocks most n b₀ i₀ b i = n + 1 - i
 
 loop-holds : tie.Need-loop-holds Inv-loop μ-loop
 loop-holds c =

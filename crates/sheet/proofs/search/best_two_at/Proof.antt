@@ -12,10 +12,10 @@ use Rattle.sheet.proofs.search.best_two_at.Statement.{statement}
 use Rattle.sheet.proofs.search.best_two_at.Tie as tie
 
 abbrev Inv-loop : tie.InvT-loop
-Inv-loop columns ends blocks n i b₀ j₀ b j = (i < j) × (j ≤ n + 1) × Trying (leftBy columns ends blocks) (fewest (leftBy columns ends blocks) (b₀ .kind) (twosAt (n - i) i (i + 1))) b (twosAt (n + 1 - j) i j)
+Inv-loop columns ends blocks most n i b₀ j₀ b j = (i < j) × (j ≤ n + 1) × Trying (leftBy columns ends blocks) (fewest (leftBy columns ends blocks) (b₀ .kind) (twosAt (n - i) i (i + 1))) b (twosAt (n + 1 - j) i j)
 
 abbrev μ-loop : tie.MeasureT-loop
-μ-loop columns ends blocks n i b₀ j₀ b j = n + 1 - j
+μ-loop columns ends blocks most n i b₀ j₀ b j = n + 1 - j
 
 add-j : tie.Need-add-j Inv-loop μ-loop
 add-j c = search needs
