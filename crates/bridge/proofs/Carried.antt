@@ -13,8 +13,8 @@ use mir.Facts.{toZ-ofZ}
 use mir.Syntax.{w64}
 use mir.Val.{SFits}
 use Rattle.lists.proofs.Joined.{all-append}
-use Rattle.lists.proofs.Alls.{all-take, all-drop, all-map, all-imp}
-use Rattle.lists.proofs.Members.{All}
+use Rattle.lists.proofs.Alls.{all-take, all-drop, all-map}
+use Rattle.lists.proofs.Members.{All, all-map as all-weaken}
 use Rattle.lists.proofs.Tests.{or-false}
 use Rattle.vectors.specs.declared.Kind.{Kind}
 use Rattle.vectors.specs.declared.Kind.the-variants.{One, Two}
@@ -89,7 +89,7 @@ variables-carried n n1 ks h right =
     (all-blank (maxVariables - length ks))
   where
     marked : (p : Part) (ls : List Kind) → All (λ k. faulty n k ≡ false) ls → All Carries (map (λ k. made k p) ls)
-    marked p ls a = all-map Carries (λ k. made k p) ls (all-imp (λ k. faulty n k ≡ false) (λ k. Carries (made k p)) (right-carried n h p) ls a)
+    marked p ls a = all-map Carries (λ k. made k p) ls (all-weaken (λ k. faulty n k ≡ false) (λ k. Carries (made k p)) (right-carried n h p) ls a)
 
 in-range : (vs : List Variable) → All Carries vs → allInRange (map variableWord vs) ≡ true
 unfolding allInRange

@@ -1,12 +1,11 @@
 -- First fit: the displacement it finds, and what it means that it finds none. Assumes nothing.
-use Prim.Native.Nat.{ℕ, zero, suc, _+_, _-_, _≤_, _<_}
-use native.Mathlib.Nat.{eq-or-lt-of-le, suc-inj, sub-zero}
-use native.Mathlib.Numerals.{add-one}
+use Prim.Native.Nat.{ℕ, zero, suc, _+_, _≤_, _<_}
+use native.Mathlib.Nat.{eq-or-lt-of-le, suc-inj}
 use native.Mathlib.Omega.{arith}
 use mathlib.Core.Path.{_≡_, refl, sym, _∙_}
 use mathlib.Core.Bool.{Bool, true, false, true≢false}
 use mathlib.Core.List.{List, [], _∷_}
-use mathlib.Core.Logic.{⊎-elim}
+use mathlib.Core.Logic.{_⊎_, inl, inr, ⊎-elim}
 use lib.Dec.{ltb}
 use lib.ListN.{length}
 use borrow.Author.Tests.{ltb-true, lt-ltb, le-ltb}
@@ -41,7 +40,7 @@ pub fits-in : (g : List ℕ) (d : ℕ) (m : List Care) → fitsAt g d m ≡ true
 unfolding fitsAt
 fits-in g d m h = and-true (inside (length g) d m) (clear g d m) h
 
-fits-out : (g : List ℕ) (d : ℕ) (m : List Care) → inside (length g) d m ≡ false → fitsAt g d m ≡ false
+pub fits-out : (g : List ℕ) (d : ℕ) (m : List Care) → inside (length g) d m ≡ false → fitsAt g d m ≡ false
 unfolding fitsAt
 fits-out g d m h = rw h
 
@@ -63,35 +62,6 @@ module _ (g : List ℕ) (m : List Care) (f d : ℕ) where
   step-on : inside (length g) d m ≡ true → clear g d m ≡ false → fitFrom (suc f) d g m ≡ fitFrom f (suc d) g m
   unfolding fitFrom
   step-on h e = rw (h, e, fitFrom)
-
--- the search at d, with all before it tried
-module _ (g : List ℕ) (m : List Care) (d : ℕ) where
-  -- a column at or past the number of cells ends it
-  pub fit-out : inside (length g) d m ≡ false → fitFrom (suc (length g) - d) d g m ≡ none d
-  unfolding fitFrom
-  fit-out h = go (suc (length g) - d)
-    where
-      go : (f : ℕ) → fitFrom f d g m ≡ none d
-      go zero = refl
-      go (suc f) = step-out g m f d h
-
-  module _ (l : d ≤ length g) (h : inside (length g) d m ≡ true) where
-    left : suc (length g) - d ≡ suc (length g - d)
-    left = omega arith
-
-    -- all cells free: it is found
-    pub fit-here : clear g d m ≡ true → fitFrom (suc (length g) - d) d g m ≡ at d
-    fit-here e = rw left (step-here g m (length g - d) d h e)
-
-    -- a cell taken: the next is tried
-    pub fit-on : clear g d m ≡ false → fitFrom (suc (length g) - d) d g m ≡ fitFrom (suc (length g) - (d + 1)) (d + 1) g m
-    fit-on e =
-        let q : suc (length g) - (d + 1) ≡ length g - d = omega arith in
-        rw (left, q, add-one) (step-on g m (length g - d) d h e)
-
-pub fit-start : (g : List ℕ) (m : List Care) → firstFit g m ≡ fitFrom (suc (length g) - 0) 0 g m
-unfolding firstFit
-fit-start g m = rw sub-zero
 
 -- ---- what the search finds
 
@@ -174,3 +144,36 @@ fit-low g m d l h = inside-low (length g) d m l (fit-inside g m d h)
 pub fit-none : (g : List ℕ) (m : List Care) (t : ℕ) → firstFit g m ≡ none t → NoneFits g m t
 fit-none g [] t h = let z : _≡_ {A = ℕ} 0 1 = cc (first-empty g) in absurd (omega arith)
 fit-none g (c ∷ cs) t h = rw h at (answer-first g c cs)
+
+-- ---- the search finds what is so
+
+clash : (g : List ℕ) (e : ℕ) (m : List Care) → fitsAt g e m ≡ true → fitsAt g e m ≡ false → ⊥
+clash g e m p q = true≢false (sym p ∙ q)
+
+first-same : (g : List ℕ) (m : List Care) (r : Fit) → Answer g m r → (d : ℕ) → FirstAt g m d → r ≡ at d
+first-same g m (none t) a d f = absurd (clash g d m (f .fits) (a .never d))
+first-same g m (at e) a d f = go (le-or-lt d e) (le-or-lt e d)
+  where
+    go : (d ≤ e) ⊎ (e < d) → (e ≤ d) ⊎ (d < e) → at e ≡ at d
+    go (inr l) k = absurd (clash g e m (a .fits) (f .before e l))
+    go (inl l) (inr k) = absurd (clash g d m (f .fits) (a .before d k))
+    go (inl l) (inl k) = let q : e ≡ d = omega arith in rw q
+
+-- the smallest displacement that fits
+pub fit-is : (g : List ℕ) (m : List Care) (d : ℕ) → 0 < length m → FirstAt g m d → firstFit g m ≡ at d
+fit-is g [] d p f = absurd (omega arith)
+fit-is g (c ∷ cs) d p f = first-same g (c ∷ cs) (firstFit g (c ∷ cs)) (answer-first g c cs) d f
+
+none-same : (g : List ℕ) (m : List Care) (r : Fit) → Answer g m r → (t : ℕ) → NoneFits g m t → r ≡ none t
+none-same g m (at e) a t f = absurd (clash g e m (a .fits) (f .never e))
+none-same g m (none u) a t f = go (le-or-lt t u) (le-or-lt u t)
+  where
+    go : (t ≤ u) ⊎ (u < t) → (u ≤ t) ⊎ (t < u) → none u ≡ none t
+    go (inr l) k = absurd (true≢false (sym (f .within u l) ∙ a .beyond u (omega arith)))
+    go (inl l) (inr k) = absurd (true≢false (sym (a .within t k) ∙ f .beyond t (omega arith)))
+    go (inl l) (inl k) = let q : u ≡ t = omega arith in rw q
+
+-- none that fits
+pub fit-none-is : (g : List ℕ) (m : List Care) (t : ℕ) → 0 < length m → NoneFits g m t → firstFit g m ≡ none t
+fit-none-is g [] t p f = absurd (omega arith)
+fit-none-is g (c ∷ cs) t p f = none-same g (c ∷ cs) (firstFit g (c ∷ cs)) (answer-first g c cs) t f

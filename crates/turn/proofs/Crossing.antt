@@ -1,18 +1,16 @@
 -- The bits of two rows that changed places at a stage's columns. Assumes nothing.
 use Prim.Native.Nat.{ℕ, _+_, _-_, _*_, _/_, _%_, _^_, _≤_, _<_, min}
-use native.Mathlib.Nat.{mul-assoc}
 use native.Mathlib.Omega.{arith}
 use mathlib.Core.Path.{_≡_, sym, ap, _∙_}
 use mathlib.Core.Logic.{_⊎_, inl, inr}
 use lib.Bits.{bitAnd, bitXor, and-step, and-shr, xor-shr}
-use lib.Pow.{pow-add, shl-shr, shr-shr, field, mod-mod-pow}
 use Rattle.lists.proofs.Tests.{le-or-lt}
 use Rattle.vectors.specs.Bits.{bit}
-use Rattle.vectors.proofs.BitsLaws.{xor-low}
+use Rattle.vectors.proofs.BitsLaws.{xor-low, bit-shr, bit-word, bit-shl, bit-below}
 use Rattle.turn.specs.Stage.{Distance, crossing, lowRow, highRow}
 use Rattle.turn.proofs.Places.{past, next}
 
--- ---- bits of XOR, AND and shifts
+-- ---- bits of XOR and AND
 
 bit-xor : (a b c : ℕ) → bit (bitXor a b) c ≡ (bit a c + bit b c) % 2
 bit-xor a b c = ap (λ (n : ℕ). n % 2) (xor-shr a b c) ∙ xor-low (a / 2 ^ c) (b / 2 ^ c) ∙ sums (a / 2 ^ c) (b / 2 ^ c)
@@ -25,30 +23,6 @@ bit-and a b c = ap (λ (n : ℕ). n % 2) (and-shr a b c ∙ and-step (a / 2 ^ c)
   where
     last : (n a b : ℕ) → (n * 2 + min (a % 2) (b % 2)) % 2 ≡ min (a % 2) (b % 2)
     last n a b = omega arith
-
-bit-shr : (a j c : ℕ) → bit (a / 2 ^ j) c ≡ bit a (j + c)
-bit-shr a j c = ap (λ (n : ℕ). n % 2) (shr-shr a j c)
-
--- a word of w bits has the bits below w
-bit-word : (w x c : ℕ) → c < w → bit (x % 2 ^ w) c ≡ bit x c
-bit-word w x c h =
-    let e : (w - c - 1 + 1) + c ≡ w = omega arith in
-    ap (λ (t : ℕ). bit (x % 2 ^ t) c) (sym e) ∙ ap (λ (n : ℕ). n % 2) (field x (w - c - 1 + 1) c) ∙ mod-mod-pow (x / 2 ^ c) (w - c - 1) 1
-
-bit-shl : (a j c : ℕ) → bit (a * 2 ^ j) (j + c) ≡ bit a c
-bit-shl a j c = ap (λ (n : ℕ). n % 2) (sym (shr-shr (a * 2 ^ j) j c) ∙ ap (λ (n : ℕ). n / 2 ^ c) (shl-shr a j))
-
-bit-below : (a j c : ℕ) → c < j → bit (a * 2 ^ j) c ≡ 0
-bit-below a j c h =
-    let e : j ≡ (j - c - 1 + 1) + c = omega arith in
-    ap (λ (t : ℕ). bit (a * 2 ^ t) c) e
-    ∙ ap (λ (n : ℕ). n / 2 ^ c % 2) (ap (λ (n : ℕ). a * n) (pow-add 2 (j - c - 1 + 1) c) ∙ sym (mul-assoc a (2 ^ (j - c - 1 + 1)) (2 ^ c)))
-    ∙ ap (λ (n : ℕ). n % 2) (shl-shr (a * 2 ^ (j - c - 1 + 1)) c)
-    ∙ ap (λ (n : ℕ). n % 2) (ap (λ (n : ℕ). a * n) (pow-add 2 (j - c - 1) 1) ∙ sym (mul-assoc a (2 ^ (j - c - 1)) 2))
-    ∙ even (a * 2 ^ (j - c - 1))
-  where
-    even : (n : ℕ) → n * 2 % 2 ≡ 0
-    even n = omega arith
 
 -- ---- digits
 

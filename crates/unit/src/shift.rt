@@ -3,12 +3,14 @@
 // 32768 + the first vector of row r until the row is placed; 0 where the row is empty.
 ghost use mathlib.Core.Path.{_≡_};
 ghost use mathlib.Core.Bool.{true};
-ghost use Prim.Native.Nat.{_+_, _^_, _≤_, _<_};
+ghost use Prim.Native.Nat.{ℕ, _+_, _-_, _/_, _^_, _≤_, _<_};
 ghost use lib.ListN.{length, replicate};
+ghost use Rattle.vectors.specs.Bits.{bit};
 ghost use Rattle.rows.specs.Fit as fits;
 ghost use Rattle.rows.specs.Place as placing;
 ghost use Rattle.unit.specs.Bounds.{maxVectors, maxCells, maxSide};
 ghost use Rattle.unit.specs.Inner.Chains.{columnIn, nextIn, headOf, weightFrom, caresIn, chain, Rises, Weighs, Marked, Packed, LinkedIs, topOf, fitOf, RowPlaced, PlacedIs};
+ghost use Rattle.unit.specs.Inner.Taken.{maxWords, bitIn, Taken, shutRow};
 
 // The displacement found, or none, after so many tried.
 pub(crate) enum Fit {
@@ -105,66 +107,94 @@ fn top(aux: &[u64], first: usize) -> usize
     most
 }
 
-// Whether every cell of the row at the displacement d is free.
-fn clear(aux: &[u64], g: &[u16], first: usize, d: usize) -> bool
-    requires linked { ⌜ Rises 0 (now aux) ⌝ }
-    requires inside { ⌜ (0 < first) × (fits.inside (length (now g)) d (chain (now aux) first) ≡ true) ⌝ }
-    ensures { λ r. ⌜ r ≡ fits.clear (now (g .entry)) d (chain (now (aux .entry)) first) ⌝ }
+// The bits of the 64 cells from start on.
+fn window(taken: &[u64], start: usize) -> u64
+    requires { ⌜ start / 64 + 1 < length (now taken) ⌝ }
+    ensures { λ r. ⌜ ((t : ℕ) → t < 64 → bit r t ≡ bitIn (now (taken .entry)) (start + t)) ⌝ }
 {
+    let i = start / 64;
+    let s = start % 64;
+    (taken[i] >> s) | (taken[i + 1] << 1 << (63 - s))
+}
+
+// Which of the 64 displacements from d on the row has no room at: bit t for d + t.
+fn shut(aux: &[u64], taken: &[u64], first: usize, d: usize) -> u64
+    requires linked { ⌜ Rises 0 (now aux) ⌝ }
+    requires inside { ⌜ (0 < first) × (fits.inside maxCells d (chain (now aux) first) ≡ true) × (length (now taken) ≡ maxWords) ⌝ }
+    ensures { λ r. ⌜ ((t : ℕ) → t < 64 → bit r t ≡ shutRow (now (taken .entry)) (d + t) (chain (now (aux .entry)) first)) ⌝ }
+{
+    let mut closed = 0;
     let mut j = first;
     while j < aux.len() {
         let w = aux[j];
-        let c = column(w) + d;
-        if g[c] != 0 {
-            return false;
+        closed = closed | window(taken, column(w) + d);
+        if closed == 0xffffffffffffffff {
+            return closed;
         }
         j = next(w);
     }
-    true
+    closed
 }
 
-// The smallest displacement at which the row fits.
-fn first_fit(aux: &[u64], g: &[u16], first: usize) -> Fit
+// The smallest displacement at which the row fits, 64 tried at a time.
+fn first_fit(aux: &[u64], g: &[u16], taken: &[u64], first: usize) -> Fit
     requires linked { ⌜ Rises 0 (now aux) ⌝ }
-    requires inside { ⌜ (0 < first) × (first < length (now aux)) ⌝ }
+    requires inside { ⌜ (0 < first) × (first < length (now aux)) × (length (now g) ≤ maxCells) ⌝ }
+    requires taken { ⌜ Taken (now g) (now taken) ⌝ }
     ensures { λ r. ⌜ fitOf r ≡ fits.firstFit (now (g .entry)) (chain (now (aux .entry)) first) ⌝ }
 {
     let c = top(aux, first);
     let mut d = 0;
     while c + d < g.len() {
-        if clear(aux, g, first, d) {
-            return Fit::At(d);
+        let open = !shut(aux, taken, first, d);
+        if open != 0 {
+            return Fit::At(d + u64::trailing_zeros(open) as usize);
         }
-        d += 1;
+        d += 64;
     }
-    Fit::None(d)
+    if c < g.len() {
+        return Fit::None(g.len() - c);
+    }
+    Fit::None(0)
 }
 
-// Writes the row's indices into the cells.
-fn put_row(aux: &[u64], g: &mut [u16], first: usize, d: usize)
+// Writes the row's indices into the cells, which are taken from then on.
+fn put_row(aux: &[u64], g: &mut [u16], taken: &mut [u64], first: usize, d: usize)
     requires linked { ⌜ Rises 0 (now aux) ⌝ }
-    requires inside { ⌜ (0 < first) × (length (now aux) ≤ maxVectors + 1) × (fits.inside (length (now g)) d (chain (now aux) first) ≡ true) ⌝ }
+    requires inside { ⌜ (0 < first) × (length (now aux) ≤ maxVectors + 1) × (length (now g) ≤ maxCells) × (fits.inside (length (now g)) d (chain (now aux) first) ≡ true) ⌝ }
+    requires taken { ⌜ Taken (now g) (now taken) ⌝ }
     ensures { λ _. ⌜ now (g .exit) ≡ fits.put (now (g .entry)) d (chain (now (aux .entry)) first) ⌝ }
+    ensures { λ _. ⌜ Taken (now (g .exit)) (now (taken .exit)) ⌝ }
 {
     let mut j = first;
     while j < aux.len() {
         let w = aux[j];
         let c = column(w) + d;
         g[c] = j as u16;
+        taken[c / 64] = taken[c / 64] | (1u64 << (c % 64));
         j = next(w);
     }
 }
 
 // Places the row at its first fit; first is the first of its vectors.
-fn place_row(aux: &[u64], h: &mut [u16], g: &mut [u16], row: usize, first: usize) -> Fit
+fn place_row(
+    aux: &[u64],
+    h: &mut [u16],
+    g: &mut [u16],
+    taken: &mut [u64],
+    row: usize,
+    first: usize,
+) -> Fit
     requires linked { ⌜ Rises 0 (now aux) ⌝ }
     requires inside { ⌜ (0 < first) × (first < length (now aux)) × (length (now aux) ≤ maxVectors + 1) × (row < length (now h)) × (length (now g) ≤ maxCells) ⌝ }
+    requires taken { ⌜ Taken (now g) (now taken) ⌝ }
     ensures { λ r. ⌜ RowPlaced (chain (now (aux .entry)) first) row (now (h .entry)) (now (g .entry)) (fitOf r) (now (h .exit)) (now (g .exit)) ⌝ }
+    ensures { λ _. ⌜ Taken (now (g .exit)) (now (taken .exit)) ⌝ }
 {
-    let fit = first_fit(aux, g, first);
+    let fit = first_fit(aux, g, taken, first);
     match fit {
         Fit::At(d) => {
-            put_row(aux, g, first, d);
+            put_row(aux, g, taken, first, d);
             h[row] = d as u16;
             Fit::At(d)
         }
@@ -174,11 +204,12 @@ fn place_row(aux: &[u64], h: &mut [u16], g: &mut [u16], row: usize, first: usize
 
 // Places the marked rows. A sweep over the rows in rising order places those whose weight is the level, and finds the greatest weight
 // below it, which is the level of the next.
-fn place_rows(aux: &[u64], h: &mut [u16], g: &mut [u16]) -> Placed
+fn place_rows(aux: &[u64], h: &mut [u16], g: &mut [u16], taken: &mut [u64]) -> Placed
     requires rises { ⌜ Rises 0 (now aux) ⌝ }
     requires weighs { ⌜ Weighs 0 (now aux) ⌝ }
     requires marked { ⌜ Marked (now aux) (now h) ⌝ }
     requires inside { ⌜ (0 < length (now aux)) × (length (now aux) ≤ maxVectors + 1) × (length (now h) ≤ 2 ^ maxSide) × (length (now g) ≤ maxCells) ⌝ }
+    requires taken { ⌜ Taken (now g) (now taken) ⌝ }
     ensures { λ r. ⌜ PlacedIs (placing.place (caresIn (now (aux .entry))) (replicate (length (now (h .entry))) 0) (now (g .entry))) r (now (h .exit)) (now (g .exit)) ⌝ }
 {
     let mut tries = 0;
@@ -192,7 +223,7 @@ fn place_rows(aux: &[u64], h: &mut [u16], g: &mut [u16]) -> Placed
             let w = weight(aux, mark);
             i += 1;
             if w == level {
-                let fit = place_row(aux, h, g, row, head(mark, aux.len()));
+                let fit = place_row(aux, h, g, taken, row, head(mark, aux.len()));
                 match fit {
                     Fit::At(d) => {
                         tries += d as u64 + 1;
@@ -221,13 +252,28 @@ fn place_rows(aux: &[u64], h: &mut [u16], g: &mut [u16]) -> Placed
     }
 }
 
+// Frees the cells: the bits below the number of cells become 0.
+fn free_cells(taken: &mut [u64], cells: usize)
+    requires { ⌜ (now taken ≡ replicate maxWords (2 ^ 64 - 1)) × (cells ≤ maxCells) ⌝ }
+    ensures { λ _. ⌜ Taken (replicate cells 0) (now (taken .exit)) ⌝ }
+{
+    let mut i = 0;
+    while i < cells / 64 {
+        taken[i] = 0;
+        i += 1;
+    }
+    taken[i] = 0xffffffffffffffffu64 << (cells % 64);
+}
+
 // Places the rows by falling weight, equal weights by rising row number, each at its first fit. The words 1 to k are row + 4096 * column.
 pub(crate) fn place(aux: &mut [u64], h: &mut [u16], g: &mut [u16]) -> Placed
     requires packed { ⌜ Packed (now aux) (length (now h)) ⌝ }
     requires inside { ⌜ (0 < length (now aux)) × (length (now aux) ≤ maxVectors + 1) × (length (now h) ≤ 2 ^ maxSide) × (length (now g) ≤ maxCells) ⌝ }
-    requires empty { ⌜ now h ≡ replicate (length (now h)) 0 ⌝ }
+    requires empty { ⌜ (now h ≡ replicate (length (now h)) 0) × (now g ≡ replicate (length (now g)) 0) ⌝ }
     ensures { λ r. ⌜ PlacedIs (placing.place (caresIn (now (aux .entry))) (now (h .entry)) (now (g .entry))) r (now (h .exit)) (now (g .exit)) ⌝ }
 {
     link(aux, h);
-    place_rows(aux, h, g)
+    let mut taken = [0xffffffffffffffffu64; 129];
+    free_cells(&mut taken, g.len());
+    place_rows(aux, h, g, &mut taken)
 }

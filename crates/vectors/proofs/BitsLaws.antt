@@ -5,7 +5,7 @@ use native.Mathlib.Numerals.{add-one, one-add}
 use native.Mathlib.Omega.{arith}
 use mathlib.Core.Path.{_≡_, refl, sym, ap, ap₂, _∙_, subst}
 use lib.Arith.{bin-ind, lt-one, digits-div, digits-mod}
-use lib.Pow.{pow-pos, pow-add, pow-lt, shr-shr, shr-lt, shl-exact, split}
+use lib.Pow.{pow-pos, pow-add, pow-lt, shl-shr, shr-shr, shr-lt, shl-exact, split, field, mod-mod-pow}
 use lib.Bits.{bitAnd, bitOr, bitXor, or-shifted-r, and-step, xor-shr, xor-mod, and-mod, and-block, and-mask, and-zero-r, and-le-l}
 use lib.Count.{ones, ones-step, ones-cat}
 use Rattle.vectors.specs.Bits.{bit, input, placeOf}
@@ -123,6 +123,32 @@ put-digit w x j b h l hb =
 
 pub put-bit : (w x j : ℕ) → x < 2 ^ j → j < w → bitOr x (1 * 2 ^ j % 2 ^ w) ≡ x + 2 ^ j
 put-bit w x j h l = put-digit w x j 1 h l (omega arith) ∙ ap (λ (t : ℕ). x + t) (mul-one (2 ^ j))
+
+-- ---- bits of a shift, and of a word
+
+pub bit-shr : (a j c : ℕ) → bit (a / 2 ^ j) c ≡ bit a (j + c)
+bit-shr a j c = ap (λ (n : ℕ). n % 2) (shr-shr a j c)
+
+-- a word of w bits has the bits below w
+pub bit-word : (w x c : ℕ) → c < w → bit (x % 2 ^ w) c ≡ bit x c
+bit-word w x c h =
+    let e : (w - c - 1 + 1) + c ≡ w = omega arith in
+    ap (λ (t : ℕ). bit (x % 2 ^ t) c) (sym e) ∙ ap (λ (n : ℕ). n % 2) (field x (w - c - 1 + 1) c) ∙ mod-mod-pow (x / 2 ^ c) (w - c - 1) 1
+
+pub bit-shl : (a j c : ℕ) → bit (a * 2 ^ j) (j + c) ≡ bit a c
+bit-shl a j c = ap (λ (n : ℕ). n % 2) (sym (shr-shr (a * 2 ^ j) j c) ∙ ap (λ (n : ℕ). n / 2 ^ c) (shl-shr a j))
+
+pub bit-below : (a j c : ℕ) → c < j → bit (a * 2 ^ j) c ≡ 0
+bit-below a j c h =
+    let e : j ≡ (j - c - 1 + 1) + c = omega arith in
+    ap (λ (t : ℕ). bit (a * 2 ^ t) c) e
+    ∙ ap (λ (n : ℕ). n / 2 ^ c % 2) (ap (λ (n : ℕ). a * n) (pow-add 2 (j - c - 1 + 1) c) ∙ sym (mul-assoc a (2 ^ (j - c - 1 + 1)) (2 ^ c)))
+    ∙ ap (λ (n : ℕ). n % 2) (shl-shr (a * 2 ^ (j - c - 1 + 1)) c)
+    ∙ ap (λ (n : ℕ). n % 2) (ap (λ (n : ℕ). a * n) (pow-add 2 (j - c - 1) 1) ∙ sym (mul-assoc a (2 ^ (j - c - 1)) 2))
+    ∙ even (a * 2 ^ (j - c - 1))
+  where
+    even : (n : ℕ) → n * 2 % 2 ≡ 0
+    even n = omega arith
 
 -- ---- inputs and their places
 

@@ -80,10 +80,10 @@ run-one w m t h z s =
     }
 
 -- the complement, halved
-not-half : (p m : ℕ) → m < p * 2 → (p * 2 - 1 - m) / 2 ≡ p - 1 - m / 2
+pub not-half : (p m : ℕ) → m < p * 2 → (p * 2 - 1 - m) / 2 ≡ p - 1 - m / 2
 not-half p m h = omega arith
 
-not-low : (p m r : ℕ) → m < p * 2 → m % 2 ≡ r → (p * 2 - 1 - m) % 2 ≡ 1 - r
+pub not-low : (p m r : ℕ) → m < p * 2 → m % 2 ≡ r → (p * 2 - 1 - m) % 2 ≡ 1 - r
 not-low p m r h e = omega arith
 
 runs : (w k m : ℕ) → m < 2 ^ k → m < 2 ^ w → Run w m (trailingZeros k (2 ^ k - 1 - m))

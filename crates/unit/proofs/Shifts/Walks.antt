@@ -1,17 +1,34 @@
 -- The walks along a row's chain: a turn at the vector j, and the end. Assumes nothing.
-use Prim.Native.Nat.{ℕ, _+_, _%_, max, _≤_, _<_}
+use Prim.Native.Nat.{ℕ, _+_, _-_, _/_, _%_, _^_, max, _≤_, _<_}
+use native.Mathlib.Nat.{mod-lt, zero-div, zero-lt-suc}
 use native.Mathlib.Omega.{arith}
 use mathlib.Core.Path.{_≡_, refl, sym, ap, _∙_}
 use mathlib.Core.Bool.{Bool, true, false, _&&_}
 use mathlib.Core.List.{List, [], _∷_}
+use lib.Bits.{bitOr}
 use lib.Dec.{ltb}
 use lib.ListN.{length, getD, set}
-use borrow.Author.Tests.{ltb-true, ltb-false, lt-ltb, le-ltb, ne-eqb, eq-eqb}
+use borrow.Author.Tests.{ltb-true, ltb-false, lt-ltb, le-ltb}
 use Rattle.lists.proofs.Tests.{and-true, and-unit, and-assoc}
+use Rattle.vectors.specs.Bits.{bit}
 use Rattle.rows.specs.Care.{Care}
-use Rattle.rows.specs.Fit.{inside, clear, put}
+use Rattle.rows.specs.Fit.{inside, put}
 use Rattle.unit.specs.Inner.Chains.{columnIn, nextIn, chain, Rises, topFrom, topOf}
+use Rattle.unit.specs.Inner.Taken.{bitIn, shutRow}
 use Rattle.unit.proofs.Shifts.Chains.{chain-end, chain-step}
+use Rattle.unit.proofs.Shifts.Words.{bit-or, ones-bit}
+
+max-assoc : (a b r : ℕ) → max (max a b) r ≡ max a (max b r)
+max-assoc a b r = omega arith
+
+shut-low : (taken : List ℕ) (d : ℕ) (m : List Care) → shutRow taken d m ≤ 1
+unfolding shutRow
+shut-low taken d [] = omega arith
+shut-low taken d (c ∷ m) = omega (arith, shut-low taken d m, mod-lt (getD taken ((c .column + d) / 64) 0 / 2 ^ ((c .column + d) % 64)) (zero-lt-suc 1))
+
+-- at first no bit is set
+pub shut-start : (taken : List ℕ) (d t : ℕ) (m : List Care) → max (bit 0 t) (shutRow taken d m) ≡ shutRow taken d m
+shut-start taken d t m = omega (arith, zero-div (2 ^ t))
 
 -- at the vector j, whose word has the column c and the next n
 module _ (ws : List ℕ) (rises : Rises 0 ws) (j : ℕ) (p : 0 < j) (l : j < length ws) (c n : ℕ) (ec : c ≡ columnIn (getD ws j 0)) (en : n ≡ nextIn (getD ws j 0)) where
@@ -43,15 +60,26 @@ module _ (ws : List ℕ) (rises : Rises 0 ws) (j : ℕ) (p : 0 < j) (l : j < len
       let q = and-true (ltb (c + d) cells) (inside cells d (chain ws n)) (rw step at h) in
       (ltb-true (c + d) cells (q .0), q .1)
 
-  -- the cell is taken
-  pub clear-taken : (d : ℕ) (g : List ℕ) → (getD g (c + d) 0 ≡ 0 → ⊥) → clear g d (chain ws j) ≡ false
-  unfolding clear here
-  clear-taken d g m = rw (step, ne-eqb (getD g (c + d) 0) 0 m)
+  -- the column's cell and those from the next on
+  shut-on : (taken : List ℕ) (d : ℕ) → shutRow taken d (chain ws j) ≡ max (bitIn taken (c + d)) (shutRow taken d (chain ws n))
+  unfolding shutRow here
+  shut-on taken d = rw step
 
-  -- the cell is free
-  pub clear-on : (d : ℕ) (g : List ℕ) → getD g (c + d) 0 ≡ 0 → clear g d (chain ws j) ≡ clear g d (chain ws n)
-  unfolding clear here
-  clear-on d g e = rw (step, eq-eqb (getD g (c + d) 0) 0 e)
+  -- the window w of the column's cells is added to x
+  pub shut-more : (taken : List ℕ) (d x w s t : ℕ) → bit w t ≡ bitIn taken (c + d + t) → max (bit x t) (shutRow taken (d + t) (chain ws j)) ≡ s
+      → max (bit (bitOr x w) t) (shutRow taken (d + t) (chain ws n)) ≡ s
+  shut-more taken d x w s t e h =
+      let q : c + d + t ≡ c + (d + t) = omega arith in
+      ap (λ (y : ℕ). max y (shutRow taken (d + t) (chain ws n))) (bit-or x w t ∙ ap (max (bit x t)) (e ∙ ap (bitIn taken) q))
+      ∙ max-assoc (bit x t) (bitIn taken (c + (d + t))) (shutRow taken (d + t) (chain ws n))
+      ∙ ap (max (bit x t)) (sym (shut-on taken (d + t))) ∙ h
+
+  -- and leaves no displacement
+  pub shut-all : (taken : List ℕ) (d x w s t : ℕ) → t < 64 → bitOr x w ≡ 2 ^ 64 - 1 → bit w t ≡ bitIn taken (c + d + t)
+      → max (bit x t) (shutRow taken (d + t) (chain ws j)) ≡ s → bit (bitOr x w) t ≡ s
+  shut-all taken d x w s t l o e h =
+      let q : bit (bitOr x w) t ≡ 1 = ap (λ (y : ℕ). bit y t) o ∙ ones-bit t l in
+      omega (arith, shut-more taken d x w s t e h, shut-low taken (d + t) (chain ws n))
 
   -- the cell is written
   pub put-on : (d : ℕ) (g : List ℕ) → put g d (chain ws j) ≡ put (set g (c + d) j) d (chain ws n)
@@ -67,9 +95,9 @@ module _ (ws : List ℕ) (j : ℕ) (l : length ws ≤ j) where
   unfolding topFrom
   top-end t = rw (chain-end ws j l)
 
-  pub clear-end : (d : ℕ) (g : List ℕ) → clear g d (chain ws j) ≡ true
-  unfolding clear
-  clear-end d g = rw (chain-end ws j l)
+  pub shut-end : (taken : List ℕ) (d x s : ℕ) → max x (shutRow taken d (chain ws j)) ≡ s → x ≡ s
+  unfolding shutRow
+  shut-end taken d x s h = let e : shutRow taken d (chain ws j) ≡ 0 = rw (chain-end ws j l) in omega arith
 
   pub put-end : (d : ℕ) (g : List ℕ) → put g d (chain ws j) ≡ g
   unfolding put
@@ -108,3 +136,12 @@ module _ (cells d t : ℕ) (m : List Care) (p : 0 < length m) (e : t ≡ topOf m
 
   pub inside-no : cells ≤ t + d → inside cells d m ≡ false
   inside-no l = inside-top cells d m p ∙ rw (← e) (le-ltb (t + d) cells l)
+
+-- a row inside some cells is inside more
+pub inside-wide : (cells most d : ℕ) (m : List Care) → cells ≤ most → inside cells d m ≡ true → inside most d m ≡ true
+unfolding inside
+inside-wide cells most d [] l h = refl
+inside-wide cells most d (c ∷ m) l h =
+    let q = and-true (ltb (c .column + d) cells) (inside cells d m) h in
+    let b : c .column + d < most = omega (arith, ltb-true (c .column + d) cells (q .0)) in
+    rw (lt-ltb (c .column + d) most b) (inside-wide cells most d m l (q .1))

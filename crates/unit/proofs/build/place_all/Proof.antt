@@ -68,7 +68,7 @@ place-requires c κs =
     let n = ap length (rows-none d) ∙ length-replicate (2 ^ s .args .n1) 0 in
     let w = ap length (d .write-places .ensures) ∙ ap suc (length-map (s .args .vectors .now) _) in
     let g = ap length (c .before .before .before .before .before .before .before .before .before .before .clear162 .ensures) ∙ length-replicate (length (s .args .g .now)) 0 in
-    (rw n (laid d .1), ((omega arith, omega (arith, s .pre .0 .1), omega (arith, pow-mono {i = s .args .n1} {j = maxSide} (s .pre .1 .1 .2)), omega (arith, s .pre .0 .3)), rw n (rows-none d)))
+    (rw n (laid d .1), ((omega arith, omega (arith, s .pre .0 .1), omega (arith, pow-mono {i = s .args .n1} {j = maxSide} (s .pre .1 .1 .2)), omega (arith, s .pre .0 .3)), (rw n (rows-none d), rw g (c .before .before .before .before .before .before .before .before .before .before .clear162 .ensures))))
 
 same-length : tie.Need-same-length
 same-length c = search needs

@@ -17,15 +17,15 @@ enum-known-fit c = search needs
 
 put-row-requires : tie.Need-put-row-requires
 put-row-requires c κs =
-    let s = c .before .before .before .before .before .before .before .before .before in
-    let e = sym (c .before .before .before .before .first-fit .ensures) ∙ ap fitOf (c .before .before .fit .given .1) in
-    (s .pre .0, (s .pre .1 .0, s .pre .1 .2, fit-inside _ _ _ e))
+    let s = c .before .before .before .before .before .before .before .before .before .before .before .before in
+    let e = sym (c .before .before .before .before .before .first-fit .ensures) ∙ ap fitOf (c .before .before .before .fit .given .1) in
+    (s .pre .0, ((s .pre .1 .0 .0, s .pre .1 .0 .2, s .pre .1 .0 .4, fit-inside _ _ _ e), s .pre .1 .1))
 
 cast-h : tie.Need-cast-h
 cast-h c =
-    let s = c .before .before .before .before .before .before .before .before .before .before .before .before in
-    let e = sym (c .before .before .before .before .before .before .before .first-fit .ensures) ∙ ap fitOf (c .before .before .before .before .before .fit .given .1) in
-    omega (arith, fit-low _ _ _ (chain-pos _ (s .pre .0) _ (s .pre .1 .0) (s .pre .1 .1)) e, s .pre .1)
+    let s = c .before .before .before .before .before .before .before .before .before .before .before .before .before .before .before .before .before in
+    let e = sym (c .before .before .before .before .before .before .before .before .before .before .first-fit .ensures) ∙ ap fitOf (c .before .before .before .before .before .before .before .before .fit .given .1) in
+    omega (arith, fit-low _ _ _ (chain-pos _ (s .pre .0) _ (s .pre .1 .0 .0) (s .pre .1 .0 .1)) e, s .pre .1 .0)
 
 mul-h : tie.Need-mul-h
 mul-h c = search needs
@@ -42,18 +42,25 @@ same-length c = search needs
 same-length-2 : tie.Need-same-length-2
 same-length-2 c = search needs
 
-returns : tie.Need-returns
-returns c =
-    let e = sym (c .before .before .before .before .before .before .before .first-fit .ensures) ∙ ap fitOf (c .before .before .before .before .before .fit .given .1) in
-    placed-at _ _ _ _ _ e (c .before .before .put-row .ensures)
-
 same-length-3 : tie.Need-same-length-3
 same-length-3 c = search needs
 
+returns : tie.Need-returns
+returns c =
+    let e = sym (c .before .before .before .before .before .before .before .before .before .before .first-fit .ensures) ∙ ap fitOf (c .before .before .before .before .before .before .before .before .fit .given .1) in
+    (placed-at _ _ _ _ _ e (c .before .before .before .before .put-row .ensures .0), c .before .before .before .before .put-row .ensures .1)
+
+same-length-4 : tie.Need-same-length-4
+same-length-4 c = search needs
+
+same-length-5 : tie.Need-same-length-5
+same-length-5 c = search needs
+
 returns-2 : tie.Need-returns-2
 returns-2 c =
+    let s = c .before .before .before .before .before .before .before .before .before .before in
     let e = sym (c .before .before .before .first-fit .ensures) ∙ ap fitOf (c .before .fit2 .given .1) in
-    placed-none _ _ _ _ _ _ _ e
+    (placed-none _ _ _ _ _ _ _ e, s .pre .1 .1)
 
 pub place-row-spec : {M : Type 1} → statement M
 place-row-spec =
@@ -68,6 +75,8 @@ place-row-spec =
     enum-known-fit-2
     same-length
     same-length-2
-    returns
     same-length-3
+    returns
+    same-length-4
+    same-length-5
     returns-2)

@@ -1,23 +1,30 @@
--- `unit::shift::clear` meets its contract. Assumes nothing.
+-- `unit::shift::shut` meets its contract. Assumes nothing.
 use borrow.Author.Needs.{needs}
-use Prim.Native.Nat.{_+_, _-_, _<_}
+use Prim.Native.Nat.{ℕ, _+_, _-_, max, _<_}
 use native.Mathlib.Omega.{arith}
-use mathlib.Core.Path.{_≡_, refl, sym, _∙_}
+use mathlib.Core.Path.{_≡_, refl}
 use mathlib.Core.Bool.{true}
 use lib.ListN.{length}
+use Rattle.vectors.specs.Bits.{bit}
 use Rattle.rows.specs.Fit as fits
+use Rattle.unit.specs.Bounds.{maxCells}
 use Rattle.unit.specs.Inner.Chains.{chain}
-use Rattle.unit.proofs.Shifts.Walks.{next-rises, inside-on, clear-taken, clear-on, clear-end}
-use Rattle.unit.proofs.shift.clear.Statement.{statement}
-use Rattle.unit.proofs.shift.clear.Tie as tie
+use Rattle.unit.specs.Inner.Taken.{shutRow}
+use Rattle.unit.proofs.Shifts.Walks.{next-rises, inside-on, shut-start, shut-more, shut-all, shut-end}
+use Rattle.unit.proofs.shift.shut.Statement.{statement}
+use Rattle.unit.proofs.shift.shut.Tie as tie
 
 abbrev Inv-loop : tie.InvT-loop
-Inv-loop aux g first d j₀ j = (0 < j) × (fits.inside (length g) d (chain aux j) ≡ true) × (fits.clear g d (chain aux j) ≡ fits.clear g d (chain aux first))
+Inv-loop aux taken first d closed₀ j₀ closed j =
+    (0 < j)
+    × (fits.inside maxCells d (chain aux j) ≡ true)
+    × ((t : ℕ) → t < 64 → max (bit closed t) (shutRow taken (d + t) (chain aux j)) ≡ shutRow taken (d + t) (chain aux first))
 
 abbrev μ-loop : tie.MeasureT-loop
-μ-loop aux g first d j₀ j = length aux - j
+μ-loop aux taken first d closed₀ j₀ closed j = length aux - j
 
-below : (c : tie.After-column Inv-loop μ-loop) → let s = c .before .before .before .before .before .before in c .column .result + s .args .d < length (s .args .g .now)
+-- the column's cell is one of the cells
+below : (c : tie.After-column Inv-loop μ-loop) → c .column .result + c .before .before .before .before .before .before .args .d < maxCells
 below c =
     let l = c .before .before .before in
     inside-on _ (l .before .before .before .pre .0) _ (l .loop .inv .0) (c .before .before .loop-test .taken) _ _ (c .column .ensures) refl _ _ (l .loop .inv .1) .0
@@ -28,7 +35,7 @@ later c =
     next-rises (l .before .before .before .args .aux .now) (l .before .before .before .pre .0) _ (l .loop .inv .0) (c .before .before .before .before .before .loop-test .taken) _ _ (c .before .before .before .column .ensures) (c .next .ensures)
 
 loop-holds : tie.Need-loop-holds Inv-loop μ-loop
-loop-holds c = (c .before .before .pre .1 .0, c .before .before .pre .1 .1, refl)
+loop-holds c = (c .before .before .pre .1 .0, c .before .before .pre .1 .1, λ t l. shut-start _ _ t _)
 
 mul-w : tie.Need-mul-w Inv-loop μ-loop
 mul-w c = search needs
@@ -39,20 +46,16 @@ shared-slice-read-w c = search needs
 column-requires : tie.Need-column-requires Inv-loop μ-loop
 column-requires c κs = search needs
 
-add-c : tie.Need-add-c Inv-loop μ-loop
-add-c c = omega (arith, below c)
+add-window : tie.Need-add-window Inv-loop μ-loop
+add-window c = omega (arith, below c)
 
-mul-if1 : tie.Need-mul-if1 Inv-loop μ-loop
-mul-if1 c = omega (arith, below c)
-
-shared-slice-read-if1 : tie.Need-shared-slice-read-if1 Inv-loop μ-loop
-shared-slice-read-if1 c = below (c .before)
+window-requires : tie.Need-window-requires Inv-loop μ-loop
+window-requires c κs = omega (arith, below c, c .before .before .before .before .before .before .pre .1 .2)
 
 returns : tie.Need-returns Inv-loop μ-loop
 returns c =
     let l = c .before .before .before .before .before in
-    sym (clear-taken _ (l .before .before .before .pre .0) _ (l .loop .inv .0) (c .before .before .before .before .loop-test .taken) _ _ (c .before .before .column .ensures) refl _ _ (c .if1 .taken))
-    ∙ l .loop .inv .2
+    λ t h. shut-all _ (l .before .before .before .pre .0) _ (l .loop .inv .0) (c .before .before .before .before .loop-test .taken) _ _ (c .before .before .column .ensures) refl _ _ _ _ _ t h (c .if1 .taken) (c .before .window .ensures t h) (l .loop .inv .2 t h)
 
 next-requires : tie.Need-next-requires Inv-loop μ-loop
 next-requires c κs = search needs
@@ -68,14 +71,14 @@ loop-again c =
     let col = c .before .before .before .column .ensures in (
       omega (arith, later c),
       inside-on _ (start .pre .0) _ (l .loop .inv .0) at _ _ col (c .next .ensures) _ _ (l .loop .inv .1) .1,
-      sym (clear-on _ (start .pre .0) _ (l .loop .inv .0) at _ _ col (c .next .ensures) _ _ (c .before .if1 .left)) ∙ l .loop .inv .2,
+      λ t h. shut-more _ (start .pre .0) _ (l .loop .inv .0) at _ _ col (c .next .ensures) _ _ _ _ _ t (c .before .before .window .ensures t h) (l .loop .inv .2 t h),
     )
 
 returns-2 : tie.Need-returns-2 Inv-loop μ-loop
-returns-2 c = sym (clear-end _ _ (c .loop-test .left) _ _) ∙ c .before .loop .inv .2
+returns-2 c = λ t h. shut-end _ _ (c .loop-test .left) _ _ _ _ (c .before .loop .inv .2 t h)
 
-pub clear-spec : {M : Type 1} → statement M
-clear-spec =
+pub shut-spec : {M : Type 1} → statement M
+shut-spec =
     tie.close
     (tie.spec
     Inv-loop
@@ -84,9 +87,8 @@ clear-spec =
     mul-w
     shared-slice-read-w
     column-requires
-    add-c
-    mul-if1
-    shared-slice-read-if1
+    add-window
+    window-requires
     returns
     next-requires
     loop-less
