@@ -72,7 +72,7 @@ best-gains sizes words most g few cs a = best-agree-on (scoreOf sizes words) (λ
 
 -- ---- how much is gained at most
 
-pub cut-few : (sizes words : List ℕ) → members (cut sizes words) ≤ length words
+cut-few : (sizes words : List ℕ) → members (cut sizes words) ≤ length words
 unfolding members cut
 cut-few [] words = omega arith
 cut-few (s ∷ sizes) words = omega (arith, cut-few sizes (drop s words), length-take s words, length-drop s words)

@@ -18,19 +18,18 @@ use Rattle.vectors.specs.declared.Kind.{Kind}
 use Rattle.vectors.specs.declared.Kind.the-variants.{One, Two}
 use Rattle.vectors.specs.Variable.{valueOf, faulty}
 use Rattle.vectors.specs.Choice.{candidates, bestOf}
-use Rattle.vectors.proofs.Choice.Groups.{members}
 use Rattle.vectors.proofs.Choice.Squares.{tally}
 use Rattle.vectors.proofs.Choice.Candidates.{candidates-sound}
-use Rattle.sheet.specs.Layout.{maxBlocks, blocksOf, endsOf, itemsOf, block, columnOf, first, second}
-use Rattle.sheet.specs.Gain.{wholeGain, pairGain, gains, Counts, wholeMost}
+use Rattle.sheet.specs.Layout.{maxBlocks, blocksOf, endsOf, itemsOf, block, columnOf, first, second, pairItems}
+use Rattle.sheet.specs.Gain.{wholeGain, pairGain, gains, Counts, mostOf}
 use Rattle.sheet.specs.Best.{maxInputs, scoreOf, searchable, bestIn, maxWords}
 use Rattle.sheet.specs.Judged.{maxGain, Drawn, tallyAt, gainAt, Sheet, Sheets, leftBy}
 use Rattle.sheet.specs.Inner.{LaidOut}
 use Rattle.sheet.specs.declared.lay.Laid.{Laid}
 use Rattle.sheet.proofs.Columns.{value-linear, ones-columns}
-use Rattle.sheet.proofs.Room.{ends-few, ends-most}
-use Rattle.sheet.proofs.Blocks.{blocks-gain, blocks-count, counted-le}
-use Rattle.sheet.proofs.Agree.{best-gains, gains-words, cut-few}
+use Rattle.sheet.proofs.Room.{ends-few, most-square, cut-most, halves}
+use Rattle.sheet.proofs.Blocks.{blocks-gain, blocks-count, paired}
+use Rattle.sheet.proofs.Agree.{best-gains, gains-words}
 use Rattle.sheet.proofs.Checking.{Searched, search-sizes, searched}
 
 -- ---- tallies that are the same where they are looked at
@@ -61,12 +60,6 @@ module _ (t u : ℕ → ℕ) where
         λ z. (rw here (c .1 z .0), counts-same es (suc w) 0 on (c .1 z .1)),
       )
 
--- a block has at most 64 ones
-pub pair-few : (t : ℕ → ℕ) → ((w : ℕ) → t w ≤ 64) → (d w : ℕ) → pairGain d t w ≤ 64 * d
-unfolding pairGain
-pair-few t l zero w = omega arith
-pair-few t l (suc d) w = omega (arith, l w, pair-few t l d (suc w))
-
 -- ---- the inputs of a candidate
 
 pub inputs-in : (n : ℕ) (k : Kind) → faulty n k ≡ false → (first k ≤ n) × (second k ≤ n)
@@ -78,6 +71,12 @@ inputs-in n (Two i j) f =
     (omega arith, m)
 
 -- ---- the sheet of groups
+
+-- the groups' halves are below the limit
+pub halves-low : (sizes words : List ℕ) (n : ℕ) → Searched sizes words n → mostOf sizes ≤ maxGain
+halves-low sizes words n s =
+    let few : total sizes ≤ maxWords = omega (arith, s .sum, s .few) in
+    le-trans (most-square sizes) (le-trans (mul-le-mul few few) (omega arith))
 
 -- how many blocks the groups take
 abbrev pub blocksIn : List (List ℕ) → ℕ
@@ -96,11 +95,6 @@ module _ (sizes words columns : List ℕ) (n zeros : ℕ) (s : Searched sizes wo
 
   low : (k : Kind) → gains (λ x. valueOf x k) gs ≤ maxGain
   low k = le-trans (gains-words k sizes words) (le-trans (mul-le-mul (s .few) (s .few)) (omega arith))
-
-  most-low : wholeMost ends ≤ maxGain
-  most-low =
-      let few : members gs ≤ maxWords = omega (arith, cut-few sizes words, s .few) in
-      le-trans (ends-most gs) (le-trans (mul-le-mul few few) (omega arith))
 
   module _ (k : Kind) (right : faulty n k ≡ false) where
     abbrev t : ℕ → ℕ
@@ -129,12 +123,16 @@ module _ (sizes words columns : List ℕ) (n zeros : ℕ) (s : Searched sizes wo
         ap₂ _+_ (whole-same t u ends 0 0 (λ w l m. tally-is w (omega (arith, whole-few)))) (pair-same t u (blocks - length ends) (length ends) (λ w l m. tally-is w (omega (arith, whole-few))))
         ∙ blocks-gain (λ x. valueOf x k) (value-linear k) gs zeros
 
-    pairs-low : pairGain (blocks - length ends) t (length ends) ≤ 64 * (blocks - length ends)
+    -- the halves of the large groups leave room for the pairs of the small ones
+    halves-in : mostOf ends + tally (λ x. valueOf x k) (pairItems gs) ≤ mostOf sizes
+    halves-in = le-trans (halves (λ x. valueOf x k) (value-linear k) gs) (cut-most sizes words)
+
+    pairs-low : pairGain (blocks - length ends) t (length ends) ≤ mostOf sizes - mostOf ends
     pairs-low =
         rw (pair-same t u (blocks - length ends) (length ends) (λ w l m. tally-is w (omega (arith, whole-few))))
-        (pair-few u (counted-le (λ x. valueOf x k) (value-linear k) (itemsOf gs ++ replicate zeros 0)) (blocks - length ends) (length ends))
+        (omega (arith, halves-in, paired (λ x. valueOf x k) (value-linear k) gs zeros))
 
-    serves : Sheet columns ends blocks (wholeMost ends) (first k) (second k)
+    serves : Sheet columns ends blocks (mostOf sizes) (first k) (second k)
     serves =
         record {
           size = d .size;
@@ -144,12 +142,12 @@ module _ (sizes words columns : List ℕ) (n zeros : ℕ) (s : Searched sizes wo
           second-in = second-low;
           counts = counts-same t u ends 0 0 (λ w l m. tally-is w (omega (arith, whole-few))) (blocks-count (λ x. valueOf x k) (value-linear k) gs zeros);
           low = rw gain-is (low k);
+          most-high = omega (arith, halves-in);
           pairs-low = pairs-low;
-          most-is = refl;
-          most-low = most-low;
+          most-low = halves-low sizes words n s;
         }
 
-  pub sheets : Sheets columns (endsOf (cut sizes words)) (blocksIn (cut sizes words)) (wholeMost (endsOf (cut sizes words))) n
+  pub sheets : Sheets columns (endsOf (cut sizes words)) (blocksIn (cut sizes words)) (mostOf sizes) n
   sheets k right = serves k right
 
   pub sheet-best : (degree : ℕ) → bestOf (leftBy columns (endsOf (cut sizes words)) (blocksIn (cut sizes words))) (candidates n degree) ≡ bestOf (scoreOf sizes words) (candidates n degree)
@@ -189,10 +187,10 @@ module _ (sizes words items ends columns : List ℕ) (n : ℕ) (r : Laid) (e : s
   fits : blocksIn (cut sizes words) ≤ maxBlocks
   fits = omega (arith, o .few)
 
-  pub made-sheets : Sheets columns (take (r .whole) ends) ((r .items + 63) / 64) (wholeMost (take (r .whole) ends)) n
+  pub made-sheets : Sheets columns (take (r .whole) ends) ((r .items + 63) / 64) (mostOf sizes) n
   made-sheets =
-      subst (λ (l : List ℕ). Sheets columns l ((r .items + 63) / 64) (wholeMost l) n) (sym (o .ends-are))
-      (subst (λ (m : ℕ). Sheets columns (endsOf (cut sizes words)) ((m + 63) / 64) (wholeMost (endsOf (cut sizes words))) n) (sym (o .count-is))
+      subst (λ (l : List ℕ). Sheets columns l ((r .items + 63) / 64) (mostOf sizes) n) (sym (o .ends-are))
+      (subst (λ (m : ℕ). Sheets columns (endsOf (cut sizes words)) ((m + 63) / 64) (mostOf sizes) n) (sym (o .count-is))
       (sheets sizes words columns n zeros (searched sizes words n e) fits drawn))
 
   pub made-best : (degree : ℕ) → bestOf (leftBy columns (take (r .whole) ends) ((r .items + 63) / 64)) (candidates n degree) ≡ bestIn sizes words n degree

@@ -113,7 +113,7 @@ module _ (f : ℕ → ℕ) (l : Linear f) (gs : List (List ℕ)) (zeros : ℕ) w
   starts : items ≡ wholeItems gs ++ (pairItems gs ++ replicate zeros 0)
   starts = append-assoc (wholeItems gs) (pairItems gs) (replicate zeros 0)
 
-  paired : pairGain (blocksOf (length (itemsOf gs)) - length (endsOf gs)) (counted f items) (length (endsOf gs)) ≡ tally f (pairItems gs)
+  pub paired : pairGain (blocksOf (length (itemsOf gs)) - length (endsOf gs)) (λ w. tally f (block w (itemsOf gs ++ replicate zeros 0))) (length (endsOf gs)) ≡ tally f (pairItems gs)
   paired =
       let p : List ℕ = pairItems gs in
       let w : ℕ = length (endsOf gs) in

@@ -1,9 +1,9 @@
 -- The loops that judge a candidate, block by block. Assumes nothing.
-use Prim.Native.Nat.{ℕ, suc, _+_, _-_, _*_, _≤_, _<_, zero, _/_, _^_}
+use Prim.Native.Nat.{ℕ, suc, _+_, _-_, _*_, _≤_, _<_, zero, _/_}
 use native.Mathlib.Omega.{arith}
-use native.Mathlib.Nat.{zero-mul, mul-zero, suc-mul, mul-suc, mul-le-mul}
+use native.Mathlib.Nat.{mul-le-mul}
 use native.Mathlib.Numerals.{add-one}
-use mathlib.Core.Path.{_≡_, sym, ap, ap₂, _∙_, refl, subst}
+use mathlib.Core.Path.{_≡_, sym, ap, ap₂, _∙_, refl}
 use mathlib.Core.Bool.{Bool, cond, true, false}
 use mathlib.Core.List.{List, [], _∷_}
 use borrow.Author.Tests.{eq-eqb, ne-eqb, eqb-true, eqb-false}
@@ -12,8 +12,9 @@ use lib.ListN.{length, getD, drop, drop-of-length-le}
 use lib.Seq.{drop-cons}
 use Rattle.sheet.specs.Layout.{maxBlocks, first, second}
 use Rattle.vectors.specs.declared.Kind.{Kind}
+use Rattle.sheet.proofs.Splits.{splits-half}
 use Rattle.sheet.specs.Judged.{maxGain, tallyAt, gainAt, leftBy, Judges}
-use Rattle.sheet.specs.Gain.{splits, wholeGain, wholeMost, pairGain, Counts}
+use Rattle.sheet.specs.Gain.{splits, wholeGain, mostOf, pairGain, Counts}
 
 -- ---- large groups
 
@@ -82,49 +83,32 @@ module _ (ends : List ℕ) (t : ℕ → ℕ) where
       let z : wholeGain (drop w ends) t w counted ≡ 0 = rw e in
       omega (arith, s .sum)
 
--- a product is at most the square of the half sum
-four-mul : (a b : ℕ) → 4 * (a * b) ≤ (a + b) * (a + b)
-four-mul zero b = rw (zero-mul b) (omega arith)
-four-mul (suc a) zero = rw (mul-zero (suc a)) (omega arith)
-four-mul (suc a) (suc b) =
-    let e : suc a * suc b ≡ a * b + a + b + 1 = omega (arith, suc-mul a (suc b), mul-suc a b) in
-    let s : suc a + suc b ≡ suc (suc (a + b)) = omega arith in
-    let q : suc (suc (a + b)) * suc (suc (a + b)) ≡ (a + b) * (a + b) + 4 * (a + b) + 4 =
-    omega (arith, suc-mul (suc (a + b)) (suc (suc (a + b))), mul-suc (suc (a + b)) (suc (a + b)), suc-mul (a + b) (suc (a + b)), mul-suc (a + b) (a + b)) in
-    rw s (omega (arith, e, q, four-mul a b))
-
 -- what is left of the groups is at most their halves
-splits-half : (a n : ℕ) → a ≤ n → splits a n ≤ n * n / 4
-splits-half a n h =
-    let e : a + (n - a) ≡ n = omega arith in
-    let q : 4 * (a * (n - a)) ≤ n * n = subst (λ (m : ℕ). 4 * (a * (n - a)) ≤ m * m) e (four-mul a (n - a)) in
-    omega arith
-
-whole-most : (ends : List ℕ) (t : ℕ → ℕ) (w a : ℕ) → Counts ends t w a → wholeGain ends t w a ≤ wholeMost ends
-unfolding wholeGain wholeMost
+whole-most : (ends : List ℕ) (t : ℕ → ℕ) (w a : ℕ) → Counts ends t w a → wholeGain ends t w a ≤ mostOf ends
+unfolding wholeGain mostOf
 whole-most [] t w a c = omega arith
 whole-most (e ∷ es) t w a c = go (eqb e 0) refl (λ z. whole-most es t (suc w) (a + t w) (c .0 z)) (λ z. whole-most es t (suc w) 0 (c .1 z .1))
   where
-    go : (b : Bool) → eqb e 0 ≡ b → (e ≡ 0 → wholeGain es t (suc w) (a + t w) ≤ wholeMost es) → ((e ≡ 0 → ⊥) → wholeGain es t (suc w) 0 ≤ wholeMost es)
-        → cond b (wholeGain es t (suc w) (a + t w)) (splits (a + t w) e + wholeGain es t (suc w) 0) ≤ e * e / 4 + wholeMost es
+    go : (b : Bool) → eqb e 0 ≡ b → (e ≡ 0 → wholeGain es t (suc w) (a + t w) ≤ mostOf es) → ((e ≡ 0 → ⊥) → wholeGain es t (suc w) 0 ≤ mostOf es)
+        → cond b (wholeGain es t (suc w) (a + t w)) (splits (a + t w) e + wholeGain es t (suc w) 0) ≤ e * e / 4 + mostOf es
     go true q on end = omega (arith, on (eqb-true e 0 q))
     go false q on end = let n = eqb-false e 0 q in omega (arith, end n, splits-half (a + t w) e (c .1 n .0))
 
 -- ---- .. with what is left of them
 
-most-cons : (ends : List ℕ) (w : ℕ) → w < length ends → wholeMost (drop w ends) ≡ getD ends w 0 * getD ends w 0 / 4 + wholeMost (drop (w + 1) ends)
-unfolding wholeMost
-most-cons ends w h = ap wholeMost (drop-cons ends w 0 h ∙ ap (λ (j : ℕ). getD ends w 0 ∷ drop j ends) (sym (add-one w)))
+most-cons : (ends : List ℕ) (w : ℕ) → w < length ends → mostOf (drop w ends) ≡ getD ends w 0 * getD ends w 0 / 4 + mostOf (drop (w + 1) ends)
+unfolding mostOf
+most-cons ends w h = ap mostOf (drop-cons ends w 0 h ∙ ap (λ (j : ℕ). getD ends w 0 ∷ drop j ends) (sym (add-one w)))
 
 -- added up, one size more
-pub most-more : (ends : List ℕ) (sum w : ℕ) → w < length ends → sum + wholeMost (drop w ends) ≡ wholeMost ends
-    → sum + getD ends w 0 * getD ends w 0 / 4 + wholeMost (drop (w + 1) ends) ≡ wholeMost ends
+pub most-more : (ends : List ℕ) (sum w : ℕ) → w < length ends → sum + mostOf (drop w ends) ≡ mostOf ends
+    → sum + getD ends w 0 * getD ends w 0 / 4 + mostOf (drop (w + 1) ends) ≡ mostOf ends
 most-more ends sum w h e = omega (arith, most-cons ends w h)
 
-pub most-all : (ends : List ℕ) (sum w : ℕ) → length ends ≤ w → sum + wholeMost (drop w ends) ≡ wholeMost ends → sum ≡ wholeMost ends
-unfolding wholeMost
+pub most-all : (ends : List ℕ) (sum w : ℕ) → length ends ≤ w → sum + mostOf (drop w ends) ≡ mostOf ends → sum ≡ mostOf ends
+unfolding mostOf
 most-all ends sum w h e =
-    let z : wholeMost (drop w ends) ≡ 0 = ap wholeMost (drop-of-length-le ends {i = w} h) in
+    let z : mostOf (drop w ends) ≡ 0 = ap mostOf (drop-of-length-le ends {i = w} h) in
     omega arith
 
 -- the square of a 16-bit number
@@ -134,13 +118,13 @@ square-low n h = let l : n ≤ 65535 = omega arith in mul-le-mul l l
 -- room is what the groups from block w on have at most, and pairs
 pub record Hoping (ends : List ℕ) (t : ℕ → ℕ) (pairs gain counted room w : ℕ) : Type 0 where
   pub tallying : Tallying ends t gain counted w
-  pub left : room ≡ wholeMost (drop w ends) + pairs
-  pub low : room ≤ 2 ^ 40
+  pub left : room ≡ mostOf (drop w ends) + pairs
+  pub low : room ≤ maxGain
+
+pub hoping-start : (ends : List ℕ) (t : ℕ → ℕ) (most : ℕ) → mostOf ends ≤ most → most ≤ maxGain → Counts ends t 0 0 → Hoping ends t (most - mostOf ends) 0 0 most 0
+hoping-start ends t most h l c = record { tallying = tallying-start ends t c; left = omega arith; low = l }
 
 module _ (ends : List ℕ) (t : ℕ → ℕ) (pairs : ℕ) where
-  pub hoping-start : (most : ℕ) → most ≡ wholeMost ends → most + pairs ≤ 2 ^ 40 → Counts ends t 0 0 → Hoping ends t pairs 0 0 (most + pairs) 0
-  hoping-start most e l c = record { tallying = tallying-start ends t c; left = ap (λ (m : ℕ). m + pairs) e; low = l }
-
   module _ (gain counted room w v : ℕ) (h : w < length ends) (is : v ≡ t w) (s : Hoping ends t pairs gain counted room w) where
     pub room-here : getD ends w 0 * getD ends w 0 / 4 ≤ room
     room-here = omega (arith, most-cons ends w h, s .left)

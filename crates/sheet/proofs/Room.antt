@@ -1,17 +1,21 @@
 -- Room for the items: how many there are at most. Assumes nothing.
-use Prim.Native.Nat.{ℕ, zero, suc, _+_, _-_, _*_, _≤_, _<_}
-use native.Mathlib.Nat.{mul-le-mul-right}
+use Prim.Native.Nat.{ℕ, zero, suc, _+_, _-_, _*_, _/_, _≤_, _<_}
+use native.Mathlib.Nat.{mul-le-mul, mul-le-mul-right}
 use native.Mathlib.Omega.{arith}
 use mathlib.Core.Path.{_≡_, refl}
 use mathlib.Core.List.{List, [], _∷_, _++_, map}
 use mathlib.Core.Logic.{_⊎_, inl, inr}
 use lib.Bits.{bitXor}
-use lib.ListN.{length, replicate, length-append, length-map}
+use lib.ListN.{length, take, drop, replicate, length-append, length-map, length-take}
+use Rattle.lists.specs.Cut.{cut, total}
 use Rattle.lists.proofs.Tests.{le-or-lt}
 use Rattle.vectors.proofs.Choice.Groups.{members}
+use Rattle.vectors.proofs.Choice.Squares.{tally, tally-le, tally-append}
+use Rattle.vectors.proofs.Xor.{Linear}
 use Rattle.sheet.specs.Layout.{pairedMost, blocksOf, pairsOf, wholeItems, endsOf, pairItems, itemsOf, maxBlocks}
-use Rattle.sheet.specs.Gain.{wholeMost}
+use Rattle.sheet.specs.Gain.{mostOf}
 use Rattle.sheet.specs.Best.{maxWords}
+use Rattle.sheet.proofs.Splits.{pairs-splits, splits-half}
 use Rattle.sheet.proofs.Laid.{Small, Large, laid, padded-length, whole-length}
 
 -- each two members once
@@ -50,17 +54,37 @@ room gs h = omega (arith, items-few gs)
 pub ends-few : (gs : List (List ℕ)) → length (endsOf gs) ≤ blocksOf (length (itemsOf gs))
 ends-few gs = omega (arith, whole-length gs, length-append (wholeItems gs) (pairItems gs))
 
--- the halves of the large groups are fewer than the members' square
-zeros-most : (m : ℕ) (es : List ℕ) → wholeMost (replicate m 0 ++ es) ≡ wholeMost es
-unfolding wholeMost
+-- ---- halves
+
+zeros-most : (m : ℕ) (es : List ℕ) → mostOf (replicate m 0 ++ es) ≡ mostOf es
+unfolding mostOf
 zeros-most zero es = refl
 zeros-most (suc m) es = omega (arith, zeros-most m es)
 
-pub ends-most : (gs : List (List ℕ)) → wholeMost (endsOf gs) ≤ members gs * members gs
-unfolding members endsOf wholeMost
-ends-most [] = omega arith
-ends-most (g ∷ gs) = go (laid g gs) (ends-most gs)
-  where
-    go : Small g gs ⊎ Large g gs → wholeMost (endsOf gs) ≤ members gs * members gs → wholeMost (endsOf (g ∷ gs)) ≤ (length g + members gs) * (length g + members gs)
-    go (inl s) r = rw (s .ends) (omega arith)
-    go (inr s) r = rw (s .ends, zeros-most (blocksOf (length g) - 1) (length g ∷ endsOf gs)) (omega arith)
+-- no more than the square of all
+pub most-square : (ss : List ℕ) → mostOf ss ≤ total ss * total ss
+unfolding mostOf total
+most-square [] = omega arith
+most-square (s ∷ ss) = omega (arith, most-square ss)
+
+-- the groups cut are no larger than their sizes
+pub cut-most : (sizes words : List ℕ) → mostOf (map length (cut sizes words)) ≤ mostOf sizes
+unfolding mostOf cut
+cut-most [] words = omega arith
+cut-most (s ∷ sizes) words =
+    let l : length (take s words) ≤ s = omega (arith, length-take s words) in
+    omega (arith, mul-le-mul l l, cut-most sizes (drop s words))
+
+module _ (f : ℕ → ℕ) (l : Linear f) where
+  -- the halves of the large groups, and the pairs told apart in the small ones
+  pub halves : (gs : List (List ℕ)) → mostOf (endsOf gs) + tally f (pairItems gs) ≤ mostOf (map length gs)
+  unfolding mostOf tally endsOf pairItems
+  halves [] = omega arith
+  halves (g ∷ gs) = go (laid g gs) (halves gs)
+    where
+      go : Small g gs ⊎ Large g gs → mostOf (endsOf gs) + tally f (pairItems gs) ≤ mostOf (map length gs)
+          → mostOf (endsOf (g ∷ gs)) + tally f (pairItems (g ∷ gs)) ≤ length g * length g / 4 + mostOf (map length gs)
+      go (inl s) r =
+          rw (s .ends, s .pairs)
+          (omega (arith, tally-append f (pairsOf g) (pairItems gs), pairs-splits f l g, splits-half (tally f g) (length g) (tally-le f (l .low) g)))
+      go (inr s) r = rw (s .ends, s .pairs, zeros-most (blocksOf (length g) - 1) (length g ∷ endsOf gs)) (omega arith)

@@ -1,9 +1,9 @@
 -- The pairs that a candidate tells apart in a group: by its pairs' XORs, and by the members with 1 and with 0. Assumes nothing.
-use Prim.Native.Nat.{ℕ, zero, suc, _+_, _-_, _*_, _≤_, _<_}
-use native.Mathlib.Nat.{zero-add, mul-le-mul}
+use Prim.Native.Nat.{ℕ, zero, suc, _+_, _-_, _*_, _/_, _≤_, _<_}
+use native.Mathlib.Nat.{zero-add, zero-mul, mul-zero, suc-mul, mul-suc, mul-le-mul}
 use native.Mathlib.Numerals.{one-add}
 use native.Mathlib.Omega.{arith}
-use mathlib.Core.Path.{_≡_, refl, _∙_}
+use mathlib.Core.Path.{_≡_, refl, subst, _∙_}
 use mathlib.Core.List.{List, [], _∷_, map}
 use lib.Bits.{bitXor}
 use lib.ListN.{length}
@@ -25,6 +25,24 @@ splits-one a b n h =
 
 pub splits-le : (a n : ℕ) → a ≤ n → splits a n ≤ n * n
 splits-le a n h = mul-le-mul h (omega arith)
+
+-- a product is at most the square of the half sum
+four-mul : (a b : ℕ) → 4 * (a * b) ≤ (a + b) * (a + b)
+four-mul zero b = rw (zero-mul b) (omega arith)
+four-mul (suc a) zero = rw (mul-zero (suc a)) (omega arith)
+four-mul (suc a) (suc b) =
+    let e : suc a * suc b ≡ a * b + a + b + 1 = omega (arith, suc-mul a (suc b), mul-suc a b) in
+    let s : suc a + suc b ≡ suc (suc (a + b)) = omega arith in
+    let q : suc (suc (a + b)) * suc (suc (a + b)) ≡ (a + b) * (a + b) + 4 * (a + b) + 4 =
+    omega (arith, suc-mul (suc (a + b)) (suc (suc (a + b))), mul-suc (suc (a + b)) (suc (a + b)), suc-mul (a + b) (suc (a + b)), mul-suc (a + b) (a + b)) in
+    rw s (omega (arith, e, q, four-mul a b))
+
+-- halves tell the most apart
+pub splits-half : (a n : ℕ) → a ≤ n → splits a n ≤ n * n / 4
+splits-half a n h =
+    let e : a + (n - a) ≡ n = omega arith in
+    let q : 4 * (a * (n - a)) ≤ n * n = subst (λ (m : ℕ). 4 * (a * (n - a)) ≤ m * m) e (four-mul a (n - a)) in
+    omega arith
 
 module _ (f : ℕ → ℕ) (l : Linear f) where
   -- a member with 0 leaves the others' values as they are, and one with 1 turns them

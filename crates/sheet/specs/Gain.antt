@@ -32,7 +32,7 @@ unfoldable pub pairGain : ℕ → (ℕ → ℕ) → ℕ → ℕ
 pairGain zero t w = 0
 pairGain (suc d) t w = t w + pairGain d t (suc w)
 
--- what large groups have at most: halves
-unfoldable pub wholeMost : List ℕ → ℕ
-wholeMost [] = 0
-wholeMost (e ∷ es) = e * e / 4 + wholeMost es
+-- what groups of these sizes have at most: halves
+unfoldable pub mostOf : List ℕ → ℕ
+mostOf [] = 0
+mostOf (s ∷ ss) = s * s / 4 + mostOf ss

@@ -11,7 +11,7 @@ use Rattle.vectors.specs.Variable.{faulty}
 use Rattle.sheet.specs.declared.judge.Large.{Large}
 use Rattle.sheet.specs.declared.search.Best.{Best}
 use Rattle.sheet.specs.Layout.{maxBlocks, block, columnOf, first, second}
-use Rattle.sheet.specs.Gain.{wholeGain, wholeMost, pairGain, Counts}
+use Rattle.sheet.specs.Gain.{wholeGain, mostOf, pairGain, Counts}
 use Rattle.sheet.specs.Best.{maxInputs}
 
 -- above what any candidate tells apart
@@ -53,8 +53,8 @@ pub record Sheet (columns ends : List ℕ) (blocks most i j : ℕ) : Type 0 wher
   pub second-in : j ≤ maxInputs
   pub counts : Counts ends (tallyAt columns (maxBlocks * i) (maxBlocks * j)) 0 0
   pub low : gainAt columns ends blocks i j ≤ maxGain
-  pub pairs-low : pairGain (blocks - length ends) (tallyAt columns (maxBlocks * i) (maxBlocks * j)) (length ends) ≤ 64 * (blocks - length ends)
-  pub most-is : most ≡ wholeMost ends
+  pub most-high : mostOf ends ≤ most
+  pub pairs-low : pairGain (blocks - length ends) (tallyAt columns (maxBlocks * i) (maxBlocks * j)) (length ends) ≤ most - mostOf ends
   pub most-low : most ≤ maxGain
 
 -- every candidate of n inputs can be judged

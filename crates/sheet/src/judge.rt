@@ -1,11 +1,11 @@
 // How many pairs of members a candidate tells apart, from the columns of its inputs.
 ghost use mathlib.Core.Path.{_≡_};
-ghost use Prim.Native.Nat.{_+_, _-_, _^_, _≤_};
+ghost use Prim.Native.Nat.{_+_, _-_, _≤_};
 ghost use lib.Bits.{bitXor};
 ghost use lib.Count as count;
 ghost use lib.ListN.{length};
 ghost use Rattle.sheet.specs.Layout.{maxBlocks};
-ghost use Rattle.sheet.specs.Gain.{wholeGain, wholeMost, pairGain, Counts};
+ghost use Rattle.sheet.specs.Gain.{wholeGain, mostOf, pairGain, Counts};
 ghost use Rattle.sheet.specs.Judged.{maxGain, tallyAt, gainAt, Sheet, WholeIs, Judges};
 
 // The ones of a block in the XOR of two columns.
@@ -22,39 +22,31 @@ struct Large {
 }
 
 // At most so many pairs are told apart in groups of these sizes: halves.
-pub(crate) fn most(ends: &[u16]) -> u64
-    requires { ⌜ length (now ends) ≤ maxBlocks ⌝ }
-    ensures { λ r. ⌜ r ≡ wholeMost (now (ends .entry)) ⌝ }
+pub(crate) fn most(sizes: &[u16]) -> u64
+    requires { ⌜ mostOf (now sizes) ≤ maxGain ⌝ }
+    ensures { λ r. ⌜ r ≡ mostOf (now (sizes .entry)) ⌝ }
 {
     let mut sum: u64 = 0;
-    let mut w = 0;
-    while w < ends.len() {
-        let size = ends[w] as u64;
+    let mut g = 0;
+    while g < sizes.len() {
+        let size = sizes[g] as u64;
         sum += size * size / 4;
-        w += 1;
+        g += 1;
     }
     sum
 }
 
-// Of the large groups: a block's tally is added to its group's, and the group counts where it ends. Most is what they have at most,
-// pairs what the small ones have; given up where all that is left does not come above beat.
-fn whole(
-    columns: &[u64],
-    ends: &[u16],
-    a: usize,
-    b: usize,
-    most: u64,
-    pairs: u64,
-    beat: u64,
-) -> Large
+// Of the large groups: a block's tally is added to its group's, and the group counts where it ends. Most is what all groups have at
+// most; given up where all that is left does not come above beat.
+fn whole(columns: &[u64], ends: &[u16], a: usize, b: usize, most: u64, beat: u64) -> Large
     requires { ⌜ (a + maxBlocks ≤ length (now columns)) × (b + maxBlocks ≤ length (now columns)) × (length (now ends) ≤ maxBlocks) ⌝ }
     requires { ⌜ Counts (now ends) (tallyAt (now columns) a b) 0 0 ⌝ }
-    requires { ⌜ (wholeGain (now ends) (tallyAt (now columns) a b) 0 0 ≤ maxGain) × (most ≡ wholeMost (now ends)) × (most + pairs ≤ 2 ^ 40) ⌝ }
-    ensures { λ r. ⌜ WholeIs (wholeGain (now (ends .entry)) (tallyAt (now (columns .entry)) a b) 0 0) pairs beat r ⌝ }
+    requires { ⌜ (wholeGain (now ends) (tallyAt (now columns) a b) 0 0 ≤ maxGain) × (mostOf (now ends) ≤ most) × (most ≤ maxGain) ⌝ }
+    ensures { λ r. ⌜ WholeIs (wholeGain (now (ends .entry)) (tallyAt (now (columns .entry)) a b) 0 0) (most - mostOf (now (ends .entry))) beat r ⌝ }
 {
     let mut gain: u64 = 0;
     let mut counted: u64 = 0;
-    let mut room = most + pairs;
+    let mut room = most;
     let mut w = 0;
     while w < ends.len() {
         counted += ones(columns[a + w], columns[b + w]);
@@ -107,8 +99,7 @@ pub(crate) fn gain(
 {
     let a = 88 * i as usize;
     let b = 88 * j as usize;
-    let pairs = 64 * (blocks - ends.len()) as u64;
-    let large = whole(columns, ends, a, b, most, pairs, beat);
+    let large = whole(columns, ends, a, b, most, beat);
     if large.hopeless {
         return 0;
     }

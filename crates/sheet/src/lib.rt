@@ -26,6 +26,6 @@ pub fn best(words: &[u64], sizes: &[u16], n: u8, degree: usize) -> Kind
     let blocks = (laid.items + 63) / 64;
     let mut columns = [1u64; 5720];
     draw::draw(&items, blocks, &mut columns);
-    let most = judge::most(&ends[..whole]);
+    let most = judge::most(sizes);
     search::best_of(&columns, &ends[..whole], blocks, most, n, degree)
 }

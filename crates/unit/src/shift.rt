@@ -1,6 +1,7 @@
 // Row shift in the memory of the tables. While rows are placed, AUX[i] holds row + 4096 * column + 2^24 * next + 2^40 * weight of
 // vector i, next being the next vector of its row (past the end for none) and weight how many there are from i on. H[r] holds
-// 32768 + the first vector of row r until the row is placed; 0 where the row is empty.
+// 32768 + the first vector of row r until the row is placed; 0 where the row is empty. taken has a bit for each cell, 64 to a word: 0
+// where the cell is free, 1 where it is taken or past the last.
 ghost use mathlib.Core.Path.{_≡_};
 ghost use mathlib.Core.Bool.{true};
 ghost use Prim.Native.Nat.{ℕ, _+_, _-_, _/_, _^_, _≤_, _<_};

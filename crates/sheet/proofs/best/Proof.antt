@@ -1,13 +1,12 @@
 -- `sheet::best` meets its contract. Assumes nothing.
 use borrow.Author.Needs.{needs}
 use borrow.Author.Tests.{not-true, not-false}
-use native.Mathlib.Omega.{arith}
 use mathlib.Core.Path.{_≡_, refl, sym, ap, _∙_}
 use mathlib.Core.Bool.{true}
 use lib.ListN.{length}
 use Rattle.sheet.specs.Best.{searchable}
 use Rattle.sheet.proofs.Checking.{Searched, searched}
-use Rattle.sheet.proofs.Answered.{not-searched, made-sheets, made-best}
+use Rattle.sheet.proofs.Answered.{not-searched, halves-low, made-sheets, made-best}
 use Rattle.sheet.proofs.best.Statement.{statement}
 use Rattle.sheet.proofs.best.Tie as tie
 
@@ -47,36 +46,28 @@ slice-aggregate-draw-2 c = search needs
 draw-requires : tie.Need-draw-requires
 draw-requires c κs = search needs
 
-array-share-prefix-ends : tie.Need-array-share-prefix-ends
-array-share-prefix-ends c = search needs
-
-slice-aggregate-most : tie.Need-slice-aggregate-most
-slice-aggregate-most c = let o = c .before .before .before .before .before .before .before .before .lay .ensures in o .whole-is ∙ sym (ap length (o .ends-are))
-
 most-requires : tie.Need-most-requires
-most-requires c κs =
-    let o = c .before .before .before .before .before .before .before .before .lay .ensures in
-    omega (arith, o .whole-is, o .whole-few, ap length (o .ends-are))
+most-requires c κs = halves-low _ _ _ (known (c .before .before .before .before .before .before .before .before .before .before))
 
 slice-aggregate-best-of : tie.Need-slice-aggregate-best-of
 slice-aggregate-best-of c = search needs
 
-array-share-prefix-ends-2 : tie.Need-array-share-prefix-ends-2
-array-share-prefix-ends-2 c = search needs
+array-share-prefix-ends : tie.Need-array-share-prefix-ends
+array-share-prefix-ends c = search needs
 
 slice-aggregate-best-of-2 : tie.Need-slice-aggregate-best-of-2
-slice-aggregate-best-of-2 c = let o = c .before .before .before .before .before .before .before .before .before .before .before .lay .ensures in o .whole-is ∙ sym (ap length (o .ends-are))
+slice-aggregate-best-of-2 c = let o = c .before .before .before .before .before .before .before .before .before .before .lay .ensures in o .whole-is ∙ sym (ap length (o .ends-are))
 
 best-of-requires : tie.Need-best-of-requires
 best-of-requires c κs =
-    let e = c .before .before .before .before .before .before .before .before .before .before .before .before .before .before in
+    let e = c .before .before .before .before .before .before .before .before .before .before .before .before .before in
     let s = known e in
-    (s .some, s .inputs, rw (c .before .before .most .ensures) (made-sheets _ _ _ _ _ _ _ (passed e) (c .before .before .before .before .before .before .before .before .before .before .before .lay .ensures) (c .before .before .before .before .before .draw .ensures)))
+    (s .some, s .inputs, rw (c .before .before .most .ensures) (made-sheets _ _ _ _ _ _ _ (passed e) (c .before .before .before .before .before .before .before .before .before .before .lay .ensures) (c .before .before .before .before .draw .ensures)))
 
 returns-2 : tie.Need-returns-2
 returns-2 c =
     let b = c .before in
-    c .best-of .ensures ∙ made-best _ _ _ _ _ _ _ (passed (b .before .before .before .before .before .before .before .before .before .before .before .before .before .before)) (b .before .before .before .before .before .before .before .before .before .before .before .lay .ensures) (b .before .before .before .before .before .draw .ensures) _
+    c .best-of .ensures ∙ made-best _ _ _ _ _ _ _ (passed (b .before .before .before .before .before .before .before .before .before .before .before .before .before)) (b .before .before .before .before .before .before .before .before .before .before .lay .ensures) (b .before .before .before .before .draw .ensures) _
 
 pub best-spec : {M : Type 1} → statement M
 best-spec =
@@ -91,11 +82,9 @@ best-spec =
     slice-aggregate-draw
     slice-aggregate-draw-2
     draw-requires
-    array-share-prefix-ends
-    slice-aggregate-most
     most-requires
     slice-aggregate-best-of
-    array-share-prefix-ends-2
+    array-share-prefix-ends
     slice-aggregate-best-of-2
     best-of-requires
     returns-2)

@@ -20,19 +20,13 @@ mul-a c = search needs
 mul-b : tie.Need-mul-b
 mul-b c = search needs
 
-sub-pairs : tie.Need-sub-pairs
-sub-pairs c = search needs
-
-mul-pairs : tie.Need-mul-pairs
-mul-pairs c = search needs
-
 whole-requires : tie.Need-whole-requires
 whole-requires c κs =
     let a = c .before .before .args in
     let p = c .before .before .pre in
     let large = gain-whole (a .columns .now) (a .ends .now) (a .blocks) (a .i) (a .j) in (
       (omega (arith, p .size, p .first-in), omega (arith, p .size, p .second-in), omega (arith, p .whole, p .fit)),
-      (p .counts, (omega (arith, p .low, large), p .most-is, omega (arith, p .most-low, p .fit))),
+      (p .counts, (omega (arith, p .low, large), p .most-high, p .most-low)),
     )
 
 returns : tie.Need-returns
@@ -57,8 +51,6 @@ gain-spec =
     (tie.spec
     mul-a
     mul-b
-    sub-pairs
-    mul-pairs
     whole-requires
     returns
     paired-requires

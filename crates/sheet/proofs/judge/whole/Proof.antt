@@ -4,6 +4,7 @@ use native.Mathlib.Omega.{arith}
 use mathlib.Core.Bool.{true, false, true≢false}
 use mathlib.Core.Path.{sym}
 use lib.ListN.{length, getD}
+use Rattle.sheet.specs.Gain.{mostOf}
 use Rattle.sheet.specs.Judged.{tallyAt}
 use Rattle.sheet.proofs.Judging.{Hoping, hoping-start, hoping-on, hoping-end, hopeless, room-here, tallying-all, ends-high, ends-low, square-low}
 use borrow.Author.Needs.{needs}
@@ -11,18 +12,15 @@ use Rattle.sheet.proofs.judge.whole.Statement.{statement}
 use Rattle.sheet.proofs.judge.whole.Tie as tie
 
 abbrev Inv-loop : tie.InvT-loop
-Inv-loop columns ends a b most pairs beat gain₀ counted₀ room₀ w₀ gain counted room w = Hoping ends (tallyAt columns a b) pairs gain counted room w
+Inv-loop columns ends a b most beat gain₀ counted₀ room₀ w₀ gain counted room w = Hoping ends (tallyAt columns a b) (most - mostOf ends) gain counted room w
 
 abbrev μ-loop : tie.MeasureT-loop
-μ-loop columns ends a b most pairs beat gain₀ counted₀ room₀ w₀ gain counted room w = length ends - w
-
-add-room : tie.Need-add-room Inv-loop μ-loop
-add-room c = omega (arith, c .before .before .pre .1 .1 .2)
+μ-loop columns ends a b most beat gain₀ counted₀ room₀ w₀ gain counted room w = length ends - w
 
 loop-holds : tie.Need-loop-holds Inv-loop μ-loop
 loop-holds c =
     let p = c .before .before .pre in
-    hoping-start _ _ _ _ (p .1 .1 .1) (p .1 .1 .2) (p .1 .0)
+    hoping-start _ _ _ (p .1 .1 .1) (p .1 .1 .2) (p .1 .0)
 
 add-ones : tie.Need-add-ones Inv-loop μ-loop
 add-ones c = search needs
@@ -106,7 +104,6 @@ whole-spec =
     (tie.spec
     Inv-loop
     μ-loop
-    add-room
     loop-holds
     add-ones
     mul-ones
