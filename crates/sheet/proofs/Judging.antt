@@ -1,5 +1,5 @@
 -- The loops that judge a candidate, block by block. Assumes nothing.
-use Prim.Native.Nat.{ℕ, suc, _+_, _-_, _*_, _≤_, _<_, zero, _/_}
+use Prim.Native.Nat.{ℕ, suc, _+_, _-_, _*_, _≤_, _<_, zero, _/_, _^_}
 use native.Mathlib.Omega.{arith}
 use native.Mathlib.Nat.{mul-le-mul}
 use native.Mathlib.Numerals.{add-one}
@@ -7,6 +7,8 @@ use mathlib.Core.Path.{_≡_, sym, ap, ap₂, _∙_, refl}
 use mathlib.Core.Bool.{Bool, cond, true, false}
 use mathlib.Core.List.{List, [], _∷_}
 use borrow.Author.Tests.{eq-eqb, ne-eqb, eqb-true, eqb-false}
+use lib.Bits.{xor-lt}
+use lib.Count.{ones-le}
 use lib.Dec.{eqb}
 use lib.ListN.{length, getD, drop, drop-of-length-le}
 use lib.Seq.{drop-cons}
@@ -146,14 +148,23 @@ module _ (ends : List ℕ) (t : ℕ → ℕ) (pairs : ℕ) where
 
 -- ---- small groups
 
-module _ (t : ℕ → ℕ) (from to : ℕ) where
+-- a block has at most 64 ones
+pub tally-few : (columns : List ℕ) (a b : ℕ) → ((x : ℕ) → getD columns x 0 < 2 ^ 64) → (w : ℕ) → tallyAt columns a b w ≤ 64
+tally-few columns a b h w = ones-le 64 _ (xor-lt 64 (getD columns (a + w) 0) (getD columns (b + w) 0) (h (a + w)) (h (b + w)))
+
+pair-few : (t : ℕ → ℕ) → ((w : ℕ) → t w ≤ 64) → (d w : ℕ) → pairGain d t w ≤ 64 * d
+unfolding pairGain
+pair-few t l zero w = omega arith
+pair-few t l (suc d) w = omega (arith, l w, pair-few t l d (suc w))
+
+module _ (t : ℕ → ℕ) (from to start : ℕ) where
   pub record Pairing (gain w : ℕ) : Type 0 where
     pub low : from ≤ w
     pub within : w ≤ to
-    pub few : gain ≤ 64 * (w - from)
-    pub sum : gain + pairGain (to - w) t w ≡ pairGain (to - from) t from
+    pub few : gain ≤ start + 64 * (w - from)
+    pub sum : gain + pairGain (to - w) t w ≡ start + pairGain (to - from) t from
 
-  pub pairing-start : from ≤ to → Pairing 0 from
+  pub pairing-start : from ≤ to → Pairing start from
   pairing-start h = record { low = omega arith; within = h; few = omega arith; sum = omega arith }
 
   pub pairing-on : (gain w v : ℕ) → w < to → v ≡ t w → v ≤ 64 → Pairing gain w → Pairing (gain + v) (w + 1)
@@ -161,16 +172,20 @@ module _ (t : ℕ → ℕ) (from to : ℕ) where
   pairing-on gain w v h is l s =
       let e : to - w ≡ suc (to - (w + 1)) = omega arith in
       let q : pairGain (to - w) t w ≡ t w + pairGain (to - (w + 1)) t (suc w) = ap (λ (d : ℕ). pairGain d t w) e in
-      let r : gain + t w + pairGain (to - (w + 1)) t (suc w) ≡ pairGain (to - from) t from = omega (arith, q, s .sum) in
+      let r : gain + t w + pairGain (to - (w + 1)) t (suc w) ≡ start + pairGain (to - from) t from = omega (arith, q, s .sum) in
       rw is
       record { low = omega (arith, s .low); within = omega arith; few = omega (arith, s .few, s .low, is); sum = rw (add-one w) (rw (add-one w) at r) }
 
-  pub pairing-all : (gain w : ℕ) → to ≤ w → Pairing gain w → gain ≡ pairGain (to - from) t from
+  pub pairing-all : (gain w : ℕ) → to ≤ w → Pairing gain w → gain ≡ start + pairGain (to - from) t from
   unfolding pairGain
   pairing-all gain w h s =
       let e : to - w ≡ 0 = omega arith in
       let z : pairGain (to - w) t w ≡ 0 = ap (λ (d : ℕ). pairGain d t w) e in
       omega (arith, s .sum)
+
+  -- given up: 64 a block do not come above beat
+  pub pairing-low : (gain w beat : ℕ) → Pairing gain w → ((v : ℕ) → t v ≤ 64) → gain + 64 * (to - w) ≤ beat → Judges (start + pairGain (to - from) t from) beat gain
+  pairing-low gain w beat s m h = record { above = λ l. absurd (omega arith); below = λ l. omega (arith, s .sum, pair-few t m (to - w) w) }
 
 -- ---- both
 

@@ -70,14 +70,18 @@ fn whole(columns: &[u64], ends: &[u16], a: usize, b: usize, most: u64, beat: u64
     }
 }
 
-// Of the small groups, whose pairs fill the blocks from w on: a pair with value 1 is told apart.
-fn paired(columns: &[u64], a: usize, b: usize, from: usize, to: usize) -> u64
-    requires { ⌜ (a + maxBlocks ≤ length (now columns)) × (b + maxBlocks ≤ length (now columns)) × (from ≤ to) × (to ≤ maxBlocks) ⌝ }
-    ensures { λ r. ⌜ r ≡ pairGain (to - from) (tallyAt (now (columns .entry)) a b) from ⌝ }
+// Of the small groups, whose pairs fill the blocks from one to another: a pair with value 1 is told apart. Start is what the large
+// groups have; given up where 64 a block do not come above beat.
+fn paired(columns: &[u64], a: usize, b: usize, from: usize, to: usize, start: u64, beat: u64) -> u64
+    requires { ⌜ (a + maxBlocks ≤ length (now columns)) × (b + maxBlocks ≤ length (now columns)) × (from ≤ to) × (to ≤ maxBlocks) × (start ≤ maxGain) ⌝ }
+    ensures { λ r. ⌜ Judges (start + pairGain (to - from) (tallyAt (now (columns .entry)) a b) from) beat r ⌝ }
 {
-    let mut gain: u64 = 0;
+    let mut gain = start;
     let mut w = from;
     while w < to {
+        if gain + 64 * (to - w) as u64 <= beat {
+            return gain;
+        }
         gain += ones(columns[a + w], columns[b + w]);
         w += 1;
     }
@@ -103,5 +107,5 @@ pub(crate) fn gain(
     if large.hopeless {
         return 0;
     }
-    large.gain + paired(columns, a, b, ends.len(), blocks)
+    paired(columns, a, b, ends.len(), blocks, large.gain, beat)
 }

@@ -1,18 +1,12 @@
 -- `sheet::judge::gain` meets its contract. Assumes nothing.
-use Prim.Native.Nat.{_+_}
+use Prim.Native.Nat.{ℕ}
 use native.Mathlib.Omega.{arith}
-use mathlib.Core.Path.{_≡_, refl}
-use Rattle.sheet.specs.Judged.{gainAt}
-use Rattle.sheet.proofs.Judging.{gain-sum, gain-whole, judges-exact, judges-none}
+use mathlib.Core.Path.{refl, subst}
+use Rattle.sheet.specs.Judged.{Judges}
+use Rattle.sheet.proofs.Judging.{gain-sum, gain-whole, judges-none}
 use borrow.Author.Needs.{needs}
 use Rattle.sheet.proofs.judge.gain.Statement.{statement}
 use Rattle.sheet.proofs.judge.gain.Tie as tie
-
--- both sums are the whole
-total : (c : tie.After-struct-known)
-    → let a = c .before .before .before .before .before .before .args in
-    c .before .before .before .whole .result .gain + c .before .paired .result ≡ gainAt (a .columns .now) (a .ends .now) (a .blocks) (a .i) (a .j)
-total c = gain-sum _ _ _ _ _ _ _ (c .before .before .before .whole .ensures .is (c .before .before .if1 .left)) (c .before .paired .ensures)
 
 mul-a : tie.Need-mul-a
 mul-a c = search needs
@@ -37,13 +31,23 @@ returns c =
     judges-none _ _ (omega (arith, c .before .whole .ensures .low (c .if1 .taken), s .pre .pairs-low, sum))
 
 paired-requires : tie.Need-paired-requires
-paired-requires c κs = search needs
-
-add-result : tie.Need-add-result
-add-result c = omega (arith, total c, c .before .before .before .before .before .before .pre .low)
+paired-requires c κs =
+    let s = c .before .before .before .before in
+    let a = s .args in
+    let p = s .pre in
+    let large = gain-whole (a .columns .now) (a .ends .now) (a .blocks) (a .i) (a .j) in (
+      omega (arith, p .size, p .first-in),
+      omega (arith, p .size, p .second-in),
+      p .whole,
+      p .fit,
+      omega (arith, c .before .whole .ensures .is (c .if1 .left), p .low, large),
+    )
 
 returns-2 : tie.Need-returns-2
-returns-2 c = judges-exact _ _ _ (total c)
+returns-2 c =
+    let a = c .before .before .before .before .before .args in
+    let e = gain-sum (a .columns .now) (a .ends .now) (a .blocks) (a .i) (a .j) _ _ (c .before .before .whole .ensures .is (c .before .if1 .left)) refl in
+    subst (λ (m : ℕ). Judges m (a .beat) (c .paired .result)) e (c .paired .ensures)
 
 pub gain-spec : {M : Type 1} → statement M
 gain-spec =
@@ -54,5 +58,4 @@ gain-spec =
     whole-requires
     returns
     paired-requires
-    add-result
     returns-2)
