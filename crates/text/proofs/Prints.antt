@@ -23,7 +23,7 @@ use Rattle.unit.specs.Bounds.{maxInputs, maxSide}
 use Rattle.unit.specs.Record.{kindsIn}
 use Rattle.unit.specs.Build.{Tables}
 use Rattle.unit.specs.Inner.Formed.{WellFormed}
-use Rattle.unit.specs.Inner.Masks.{masksOf}
+use Rattle.vectors.specs.Masks.{masksOf}
 use Rattle.text.specs.Print.{numbersOf, pageOf, textOf}
 
 -- the code's number of rows

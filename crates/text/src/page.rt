@@ -5,7 +5,7 @@ ghost use lib.ListN.{length, take};
 ghost use Rattle.vectors.specs.Variable.{kindsOf};
 ghost use Rattle.unit.specs.Bounds.{maxVariables};
 ghost use Rattle.unit.specs.Build.{lent};
-ghost use Rattle.unit.specs.Inner.Masks.{masksOf};
+ghost use Rattle.vectors.specs.Masks.{masksOf};
 ghost use Rattle.text.specs.Inner.Written.{putAt, maxFields};
 ghost use Rattle.text.specs.Print.{headLine, pageOf, refusedText, printed, fitted, printOf};
 use crate::decimal;
@@ -106,7 +106,7 @@ fn masks(variables: [Variable; 24], p: usize) -> [u64; 24]
     while i < p {
         let v = variables[i];
         let kind = v.kind;
-        m[i] = unit::mask(kind);
+        m[i] = vectors::mask(kind);
         i += 1;
     }
     m

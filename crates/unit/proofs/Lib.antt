@@ -8,11 +8,6 @@ pub mod Ladder
 pub mod Finish
 pub mod Ends
 pub mod Shifts
-pub mod GroupsCut
-pub mod GroupsSplit
-pub mod GroupsHeld
-pub mod ChoiceGather
-pub mod ChoiceStage
 pub mod Faults
 pub mod Values
 pub mod Lookups

@@ -3,6 +3,4 @@ pub mod Masks
 pub mod Chains
 pub mod Taken
 pub mod Ready
-pub mod Groups
-pub mod Choice
 pub mod Formed

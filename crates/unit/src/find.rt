@@ -58,7 +58,7 @@ pub(crate) fn take_values(n: u8, variables: [Variable; 24], p: usize, x: u64) ->
                 number: 0,
             };
         }
-        number = number * 2 + variables::value(variables::mask_within(kind), x);
+        number = number * 2 + vectors::value(variables::mask_within(kind), x);
     }
     Values {
         faulty: false,

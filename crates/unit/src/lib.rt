@@ -7,11 +7,9 @@ use vectors::Variable;
 
 mod build;
 mod checks;
-mod choice;
 mod find;
 mod fix;
 mod formed;
-mod groups;
 mod retrieve;
 mod shift;
 mod span;
@@ -19,7 +17,6 @@ mod variables;
 mod word;
 
 pub use formed::well_formed;
-pub use variables::mask;
 
 // What a build leaves beside the tables. The part marks in it are set from n1, and nothing reads them.
 pub struct Unit {

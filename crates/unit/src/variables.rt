@@ -7,7 +7,7 @@ ghost use lib.ListN.{length, take};
 ghost use Rattle.vectors.specs.Bits.{placeOf};
 ghost use Rattle.vectors.specs.Variable.{faulty, maskOf, kindsOf};
 ghost use Rattle.unit.specs.Bounds.{maxInputs, maxVariables};
-ghost use Rattle.unit.specs.Inner.Masks.{masksOf, valueBy, numberBy};
+ghost use Rattle.unit.specs.Inner.Masks.{masksOf, numberBy};
 use vectors::Kind;
 use vectors::Variable;
 
@@ -17,29 +17,6 @@ fn place_within(i: u8) -> u64
     ensures { λ r. ⌜ r ≡ placeOf i % 2 ^ maxInputs ⌝ }
 {
     1u64 << (i - 1)
-}
-
-// The same, with no bit where a word has no such input.
-fn place(i: u8) -> u64
-    ensures { λ r. ⌜ r ≡ placeOf i % 2 ^ maxInputs ⌝ }
-{
-    if i == 0 {
-        return 0;
-    }
-    if 64 < i {
-        return 0;
-    }
-    place_within(i)
-}
-
-// The inputs of a variable.
-pub fn mask(kind: Kind) -> u64
-    ensures { λ r. ⌜ r ≡ maskOf kind % 2 ^ maxInputs ⌝ }
-{
-    match kind {
-        Kind::One(i) => place(i),
-        Kind::Two(i, j) => place(i) ^ place(j),
-    }
 }
 
 // The inputs of a variable that is not faulty. Lookup has tested that, and does not test the positions again.
@@ -63,17 +40,10 @@ pub(crate) fn masks(variables: [Variable; 24], p: usize) -> [u64; 24]
     while i < p {
         let v = variables[i];
         let kind = v.kind;
-        m[i] = mask(kind);
+        m[i] = vectors::mask(kind);
         i += 1;
     }
     m
-}
-
-// 1 where x has an odd number of the mask's inputs.
-pub(crate) fn value(mask: u64, x: u64) -> u64
-    ensures { λ r. ⌜ r ≡ valueBy mask x ⌝ }
-{
-    (u64::count_ones(x & mask) % 2) as u64
 }
 
 // The values under the masks as a number, the first as lowest bit.
@@ -85,7 +55,7 @@ pub(crate) fn number(masks: &[u64], x: u64) -> u64
     let mut i = masks.len();
     while 0 < i {
         i -= 1;
-        r = r * 2 + value(masks[i], x);
+        r = r * 2 + vectors::value(masks[i], x);
     }
     r
 }

@@ -4,6 +4,7 @@ use mathlib.Core.Path.{_≡_, sym, ap, _∙_}
 use mathlib.Core.Bool.{Bool}
 use lib.ListN.{length}
 use borrow.Author.Tests.{not-true, not-false}
+use Rattle.choice.proofs.Choosing.{ChosenIs, chosen-is}
 use Rattle.unit.specs.Refusals.{Refusal, ladder, refuseIf, listChecks, check2Chosen}
 use Rattle.unit.specs.declared.Built.{Built}
 use Rattle.unit.specs.Build.{Tables, lent, after, refused}
@@ -31,6 +32,10 @@ passed c = sym (ap (λ (r : Refusal). r .number) (climbed (c .before .before))) 
 list : (c : tie.Else1) → let s = c .before .before .before .before .before .before .before .before in ListPassed (s .args .n) (check2Chosen (s .args .degree)) (s .args .cells) (s .args .vectors .now) (length (s .args .g .now)) (length (s .args .aux .now))
 list c = list-passed _ _ _ _ _ _ (passed c)
 
+-- what is chosen
+chosen : (c : tie.After-choose) → let s = c .before .before .before .before .before .before .before .before .before in ChosenIs (s .args .vectors .now) (s .args .n) (s .args .degree) (c .choose .result)
+chosen c = let l = list (c .before) in chosen-is _ _ _ _ (l .some-inputs) (l .listed .inputs) (l .listed .few) (c .choose .ensures)
+
 outside-requires : tie.Need-outside-requires
 outside-requires c κs = search needs
 
@@ -51,7 +56,7 @@ cast-choose : tie.Need-cast-choose
 cast-choose c = omega (arith, list c .listed .inputs)
 
 choose-requires : tie.Need-choose-requires
-choose-requires c κs = let l = list c in (l .some-inputs, l .listed .inputs, l .listed .few)
+choose-requires c κs = search needs
 
 refused-requires-2 : tie.Need-refused-requires-2
 refused-requires-2 c κs = search needs
@@ -61,7 +66,7 @@ returns-2 c =
     let s = c .before .before .before .before .before .before .before .before .before .before .before .before in
     let d = c .before .before .before in
     ap (λ (b : Built). after b (s .args .h .now) (s .args .g .now) (s .args .aux .now)) (c .refused2 .ensures)
-    ∙ chosen-apart (s .args .n) (s .args .degree) (s .args .cells) (s .args .vectors .now) (table s) (passed (d .before)) (sym (d .choose .ensures .apart) ∙ not-true _ (c .before .if2 .taken))
+    ∙ chosen-apart (s .args .n) (s .args .degree) (s .args .cells) (s .args .vectors .now) (table s) (passed (d .before)) (sym (chosen d .apart) ∙ not-true _ (c .before .if2 .taken))
 
 sub-complete : tie.Need-sub-complete
 sub-complete c = search needs
@@ -70,7 +75,7 @@ complete-requires : tie.Need-complete-requires
 complete-requires c κs =
     let s = c .before .before .before .before .before .before .before .before .before .before .before .before .before .before .before in
     let e = c .before .before .before .before .before .before .before in
-    let d = c .before .before .before .before .before .before .choose .ensures in
+    let d = chosen (c .before .before .before .before .before .before) in
     let l = list e in
     let v = chosen-split (s .args .n) (s .args .degree) _ (s .args .cells) (s .args .vectors .now) _ _ (passed e) in
     ((l .cells-fit, l .few-cells, l .words-fit, d .within), (l .listed, rw (d .kinds, d .many) v))
@@ -87,9 +92,10 @@ same-length-3 c = search needs
 returns-3 : tie.Need-returns-3
 returns-3 c =
     let s = c .before .before .before .before .before .before .before .before .before .before .before .before .before .before .before .before .before .before .before .before .before .before in
-    let r = c .before .before .before .before .before .before .before .before .before .before .before .before .before .choose in
-    c .before .before .before .before .before .before .complete .ensures ∙ chosen-same (s .args .n) (r .result .p) _ _ (s .args .cells) (s .args .vectors .now) (table s) (r .ensures .kinds) (r .ensures .many)
-    ∙ sym (chosen-rest (s .args .n) (s .args .degree) (s .args .cells) (s .args .vectors .now) (table s) (passed (c .before .before .before .before .before .before .before .before .before .before .before .before .before .before)) (sym (r .ensures .apart) ∙ not-false _ (c .before .before .before .before .before .before .before .before .before .before .before .if2 .left)))
+    let d = c .before .before .before .before .before .before .before .before .before .before .before .before .before in
+    let r = chosen d in
+    c .before .before .before .before .before .before .complete .ensures ∙ chosen-same (s .args .n) (d .choose .result .p) _ _ (s .args .cells) (s .args .vectors .now) (table s) (r .kinds) (r .many)
+    ∙ sym (chosen-rest (s .args .n) (s .args .degree) (s .args .cells) (s .args .vectors .now) (table s) (passed (c .before .before .before .before .before .before .before .before .before .before .before .before .before .before)) (sym (r .apart) ∙ not-false _ (c .before .before .before .before .before .before .before .before .before .before .before .if2 .left)))
 
 pub build-chosen-spec : {M : Type 1} → statement M
 build-chosen-spec =

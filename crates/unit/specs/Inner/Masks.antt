@@ -1,25 +1,14 @@
--- Variables as masks of a word.
-use Prim.Native.Nat.{ℕ, _+_, _*_, _%_, _^_}
-use mathlib.Core.List.{List, [], _∷_, map}
-use lib.Bits.{bitAnd}
-use lib.Count.{ones}
+-- The numbers that masks make of a word.
+use Prim.Native.Nat.{ℕ, _+_, _*_, _^_}
+use mathlib.Core.List.{List, [], _∷_}
 use lib.Dec.{ltb}
 use lib.ListN.{length}
 use mathlib.Core.Bool.{cond}
 use Rattle.vectors.specs.declared.Part.{Part}
 use Rattle.vectors.specs.declared.Part.the-variants.{Row, Column}
-use Rattle.vectors.specs.declared.Kind.{Kind}
-use Rattle.vectors.specs.Variable.{maskOf}
+pub use Rattle.vectors.specs.Masks.{masksOf, valueBy}
 use Rattle.vectors.specs.Word.{packIn}
 use Rattle.unit.specs.Bounds.{maxInputs}
-
--- the masks of variables in a word
-abbrev pub masksOf : List Kind → List ℕ
-masksOf = map (λ k. maskOf k % 2 ^ maxInputs)
-
--- 1 where x has an odd number of the mask's inputs
-abbrev pub valueBy : ℕ → ℕ → ℕ
-valueBy m x = ones (bitAnd x m) % 2
 
 -- the values under the masks as a number, the first as lowest bit
 unfoldable pub numberBy : List ℕ → ℕ → ℕ

@@ -1,0 +1,188 @@
+-- The best candidate by the sheet is the best by the rule. Assumes nothing.
+use Prim.Native.Nat.{ℕ, zero, suc, _+_, _-_, _*_, _/_, _≤_, _<_}
+use native.Mathlib.Nat.{mul-le-mul, le-trans}
+use native.Mathlib.Omega.{arith}
+use mathlib.Core.Path.{_≡_, refl, sym, ap, ap₂, subst, _∙_}
+use mathlib.Core.Bool.{Bool, true, false, cond, _||_}
+use mathlib.Core.List.{List, [], _∷_, _++_}
+use borrow.Author.Tests.{ltb-false, leb-false, eq-eqb}
+use lib.Bits.{bitXor}
+use lib.Count.{ones}
+use lib.Dec.{eqb, leb, ltb}
+use lib.ListN.{length, replicate, take}
+use Rattle.lists.specs.Cut.{cut, total}
+use Rattle.lists.proofs.Members.{all-map}
+use Rattle.lists.proofs.Parts.{part-take}
+use Rattle.lists.proofs.Tests.{or-false}
+use Rattle.vectors.specs.declared.Kind.{Kind}
+use Rattle.vectors.specs.declared.Kind.the-variants.{One, Two}
+use Rattle.vectors.specs.Variable.{valueOf, faulty}
+use Rattle.vectors.specs.Choice.{candidates, bestOf}
+use Rattle.vectors.proofs.Choice.Squares.{tally}
+use Rattle.vectors.proofs.Choice.Candidates.{candidates-sound}
+use Rattle.choice.specs.Layout.{maxBlocks, blocksOf, endsOf, itemsOf, block, columnOf, first, second, pairItems}
+use Rattle.choice.specs.Gain.{wholeGain, pairGain, gains, Counts, mostOf}
+use Rattle.vectors.specs.Bounds.{maxInputs, maxVectors}
+use Rattle.choice.specs.Best.{scoreOf, Searched}
+use Rattle.choice.specs.Judged.{maxGain, Drawn, tallyAt, gainAt, Sheet, Sheets, leftBy}
+use Rattle.choice.specs.Inner.{LaidOut}
+use Rattle.choice.specs.declared.lay.Laid.{Laid}
+use Rattle.choice.proofs.Columns.{value-linear, ones-columns}
+use Rattle.choice.proofs.Room.{ends-few, most-square, cut-most, halves}
+use Rattle.choice.proofs.Blocks.{blocks-gain, blocks-count, paired}
+use Rattle.choice.proofs.Agree.{best-gains, gains-words}
+
+-- ---- tallies that are the same where they are looked at
+
+module _ (t u : ℕ → ℕ) where
+  abbrev Same : ℕ → ℕ → Type 0
+  Same from to = (w : ℕ) → from ≤ w → w < to → t w ≡ u w
+
+  pub whole-same : (ends : List ℕ) (w a : ℕ) → Same w (w + length ends) → wholeGain ends t w a ≡ wholeGain ends u w a
+  unfolding wholeGain
+  whole-same [] w a s = refl
+  whole-same (e ∷ es) w a s =
+      let here : t w ≡ u w = s w (omega arith) (omega arith) in
+      let on : Same (suc w) (suc w + length es) = λ v l m. s v (omega arith) (omega arith) in
+      rw (here, whole-same es (suc w) (a + u w) on, whole-same es (suc w) 0 on)
+
+  pub pair-same : (d w : ℕ) → Same w (w + d) → pairGain d t w ≡ pairGain d u w
+  unfolding pairGain
+  pair-same zero w s = refl
+  pair-same (suc d) w s = ap₂ _+_ (s w (omega arith) (omega arith)) (pair-same d (suc w) (λ v l m. s v (omega arith) (omega arith)))
+
+  pub counts-same : (ends : List ℕ) (w a : ℕ) → Same w (w + length ends) → Counts ends u w a → Counts ends t w a
+  counts-same [] w a s c = tt
+  counts-same (e ∷ es) w a s c =
+      let here : t w ≡ u w = s w (omega arith) (omega arith) in
+      let on : Same (suc w) (suc w + length es) = λ v l m. s v (omega arith) (omega arith) in (
+        λ z. counts-same es (suc w) (a + t w) on (rw here (c .0 z)),
+        λ z. (rw here (c .1 z .0), counts-same es (suc w) 0 on (c .1 z .1)),
+      )
+
+-- ---- the inputs of a candidate
+
+pub inputs-in : (n : ℕ) (k : Kind) → faulty n k ≡ false → (first k ≤ n) × (second k ≤ n)
+inputs-in n (One i) f = (omega arith, ltb-false n i (or-false (eqb i 0) (ltb n i) f .1))
+inputs-in n (Two i j) f =
+    let a = or-false (eqb i 0 || leb j i) (ltb n j) f in
+    let l = leb-false j i (or-false (eqb i 0) (leb j i) (a .0) .1) in
+    let m = ltb-false n j (a .1) in
+    (omega arith, m)
+
+-- ---- the sheet of groups
+
+-- the groups' halves are below the limit
+pub halves-low : (sizes words : List ℕ) (n : ℕ) → Searched sizes words n → mostOf sizes ≤ maxGain
+halves-low sizes words n s =
+    let few : total sizes ≤ maxVectors = omega (arith, s .sum, s .few) in
+    le-trans (most-square sizes) (le-trans (mul-le-mul few few) (omega arith))
+
+-- how many blocks the groups take
+abbrev pub blocksIn : List (List ℕ) → ℕ
+blocksIn gs = blocksOf (length (itemsOf gs))
+
+module _ (sizes words columns : List ℕ) (n zeros : ℕ) (s : Searched sizes words n) (fit : blocksIn (cut sizes words) ≤ maxBlocks)
+    (d : Drawn (itemsOf (cut sizes words) ++ replicate zeros 0) columns (blocksIn (cut sizes words))) where
+  abbrev gs : List (List ℕ)
+  gs = cut sizes words
+
+  abbrev ends : List ℕ
+  ends = endsOf (cut sizes words)
+
+  abbrev blocks : ℕ
+  blocks = blocksIn (cut sizes words)
+
+  low : (k : Kind) → gains (λ x. valueOf x k) gs ≤ maxGain
+  low k = le-trans (gains-words k sizes words) (le-trans (mul-le-mul (s .few) (s .few)) (omega arith))
+
+  module _ (k : Kind) (right : faulty n k ≡ false) where
+    abbrev t : ℕ → ℕ
+    t = tallyAt columns (maxBlocks * first k) (maxBlocks * second k)
+
+    abbrev u : ℕ → ℕ
+    u w = tally (λ x. valueOf x k) (block w (itemsOf gs ++ replicate zeros 0))
+
+    first-low : first k ≤ maxInputs
+    first-low = omega (arith, inputs-in n k right .0, s .inputs)
+
+    second-low : second k ≤ maxInputs
+    second-low = omega (arith, inputs-in n k right .1, s .inputs)
+
+    -- a block's tally is that of its items
+    tally-is : (w : ℕ) → w < blocks → t w ≡ u w
+    tally-is w l =
+        ap₂ (λ (a b : ℕ). ones (bitXor a b)) (d .are (first k) w first-low l) (d .are (second k) w second-low l) ∙ ones-columns k (block w (itemsOf gs ++ replicate zeros 0))
+
+    whole-few : length ends ≤ blocks
+    whole-few = ends-few gs
+
+    gain-is : gainAt columns ends blocks (first k) (second k) ≡ gains (λ x. valueOf x k) gs
+    unfolding gainAt
+    gain-is =
+        ap₂ _+_ (whole-same t u ends 0 0 (λ w l m. tally-is w (omega (arith, whole-few)))) (pair-same t u (blocks - length ends) (length ends) (λ w l m. tally-is w (omega (arith, whole-few))))
+        ∙ blocks-gain (λ x. valueOf x k) (value-linear k) gs zeros
+
+    -- the halves of the large groups leave room for the pairs of the small ones
+    halves-in : mostOf ends + tally (λ x. valueOf x k) (pairItems gs) ≤ mostOf sizes
+    halves-in = le-trans (halves (λ x. valueOf x k) (value-linear k) gs) (cut-most sizes words)
+
+    pairs-low : pairGain (blocks - length ends) t (length ends) ≤ mostOf sizes - mostOf ends
+    pairs-low =
+        rw (pair-same t u (blocks - length ends) (length ends) (λ w l m. tally-is w (omega (arith, whole-few))))
+        (omega (arith, halves-in, paired (λ x. valueOf x k) (value-linear k) gs zeros))
+
+    serves : Sheet columns ends blocks (mostOf sizes) (first k) (second k)
+    serves =
+        record {
+          size = d .size;
+          whole = whole-few;
+          fit = fit;
+          first-in = first-low;
+          second-in = second-low;
+          counts = counts-same t u ends 0 0 (λ w l m. tally-is w (omega (arith, whole-few))) (blocks-count (λ x. valueOf x k) (value-linear k) gs zeros);
+          low = rw gain-is (low k);
+          most-high = omega (arith, halves-in);
+          pairs-low = pairs-low;
+          most-low = halves-low sizes words n s;
+        }
+
+  pub sheets : Sheets columns (endsOf (cut sizes words)) (blocksIn (cut sizes words)) (mostOf sizes) n
+  sheets k right = serves k right
+
+  pub sheet-best : (degree : ℕ) → bestOf (leftBy columns (endsOf (cut sizes words)) (blocksIn (cut sizes words))) (candidates n degree) ≡ bestOf (scoreOf sizes words) (candidates n degree)
+  sheet-best degree =
+      sym
+      (best-gains sizes words maxGain (λ k. gainAt columns ends blocks (first k) (second k)) low (candidates n degree)
+      (all-map (λ k. faulty n k ≡ false) (λ k. gainAt columns ends blocks (first k) (second k) ≡ gains (λ x. valueOf x k) gs) gain-is (candidates n degree) (candidates-sound n degree)))
+
+-- ---- as the code has laid and drawn it
+
+module _ (sizes words items ends columns : List ℕ) (n : ℕ) (r : Laid) (s : Searched sizes words n) (o : LaidOut (cut sizes words) items ends r)
+    (d : Drawn items columns ((r .items + 63) / 64)) where
+  zeros : ℕ
+  zeros = 64 * blocksIn (cut sizes words) - length (itemsOf (cut sizes words))
+
+  -- no block looks beyond them
+  block-is : (w : ℕ) → w < blocksIn (cut sizes words) → block w items ≡ block w (itemsOf (cut sizes words) ++ replicate zeros 0)
+  unfolding zeros
+  block-is w h = sym (part-take 64 (64 * w) (64 * blocksIn (cut sizes words)) items (omega arith)) ∙ ap (block w) (o .items-are)
+
+  drawn : Drawn (itemsOf (cut sizes words) ++ replicate zeros 0) columns (blocksIn (cut sizes words))
+  drawn =
+      let c = subst (λ (m : ℕ). Drawn items columns ((m + 63) / 64)) (o .count-is) d in
+      record { size = c .size; are = λ i w l h. c .are i w l h ∙ ap (columnOf i) (block-is w h) }
+
+  fits : blocksIn (cut sizes words) ≤ maxBlocks
+  fits = omega (arith, o .few)
+
+  pub made-sheets : Sheets columns (take (r .whole) ends) ((r .items + 63) / 64) (mostOf sizes) n
+  made-sheets =
+      subst (λ (l : List ℕ). Sheets columns l ((r .items + 63) / 64) (mostOf sizes) n) (sym (o .ends-are))
+      (subst (λ (m : ℕ). Sheets columns (endsOf (cut sizes words)) ((m + 63) / 64) (mostOf sizes) n) (sym (o .count-is))
+      (sheets sizes words columns n zeros s fits drawn))
+
+  pub made-best : (degree : ℕ) → bestOf (leftBy columns (take (r .whole) ends) ((r .items + 63) / 64)) (candidates n degree) ≡ bestOf (scoreOf sizes words) (candidates n degree)
+  made-best degree =
+      ap₂ (λ (l : List ℕ) (m : ℕ). bestOf (leftBy columns l ((m + 63) / 64)) (candidates n degree)) (o .ends-are) (o .count-is)
+      ∙ sheet-best sizes words columns n zeros s fits drawn degree

@@ -1,0 +1,53 @@
+-- How one group is laid out, small or large, and how long the large groups are. Assumes nothing.
+use Prim.Native.Nat.{ℕ, suc, _-_, _*_, _≤_}
+use native.Mathlib.Omega.{arith}
+use mathlib.Core.Path.{_≡_, refl}
+use mathlib.Core.Bool.{Bool, true, false}
+use mathlib.Core.List.{List, [], _∷_, _++_}
+use mathlib.Core.Logic.{_⊎_, inl, inr}
+use lib.Dec.{leb}
+use lib.ListN.{length, replicate, length-append, length-replicate}
+use borrow.Author.Tests.{leb-true, leb-false}
+use Rattle.vectors.proofs.Choice.Squares.{tally, tally-append, tally-none}
+use Rattle.choice.specs.Layout.{pairedMost, blocksOf, padded, pairsOf, wholeItems, endsOf, pairItems}
+
+pub record Small (g : List ℕ) (gs : List (List ℕ)) : Type 0 where
+  pub few : length g ≤ pairedMost
+  pub whole : wholeItems (g ∷ gs) ≡ wholeItems gs
+  pub ends : endsOf (g ∷ gs) ≡ endsOf gs
+  pub pairs : pairItems (g ∷ gs) ≡ pairsOf g ++ pairItems gs
+
+pub record Large (g : List ℕ) (gs : List (List ℕ)) : Type 0 where
+  pub many : suc pairedMost ≤ length g
+  pub whole : wholeItems (g ∷ gs) ≡ padded g ++ wholeItems gs
+  pub ends : endsOf (g ∷ gs) ≡ replicate (blocksOf (length g) - 1) 0 ++ (length g ∷ endsOf gs)
+  pub pairs : pairItems (g ∷ gs) ≡ pairItems gs
+
+pub laid : (g : List ℕ) (gs : List (List ℕ)) → Small g gs ⊎ Large g gs
+unfolding wholeItems endsOf pairItems
+laid g gs = go (leb (length g) pairedMost) refl
+  where
+    go : (t : Bool) → leb (length g) pairedMost ≡ t → Small g gs ⊎ Large g gs
+    go true e = inl (record { few = leb-true (length g) pairedMost e; whole = rw e; ends = rw e; pairs = rw e })
+    go false e = inr (record { many = leb-false (length g) pairedMost e; whole = rw e; ends = rw e; pairs = rw e })
+
+-- whole blocks
+pub padded-length : (g : List ℕ) → length (padded g) ≡ 64 * blocksOf (length g)
+unfolding padded
+padded-length g = simp (length-append, length-replicate) (omega arith)
+
+-- zeros add nothing
+pub padded-tally : (f : ℕ → ℕ) → f 0 ≡ 0 → (g : List ℕ) → tally f (padded g) ≡ tally f g
+unfolding padded
+padded-tally f e g =
+    omega (arith, tally-append f g (replicate (64 * blocksOf (length g) - length g) 0), tally-none f e (64 * blocksOf (length g) - length g))
+
+-- an end for each block of the large groups
+pub whole-length : (gs : List (List ℕ)) → length (wholeItems gs) ≡ 64 * length (endsOf gs)
+unfolding wholeItems endsOf
+whole-length [] = refl
+whole-length (g ∷ gs) = go (laid g gs) (whole-length gs)
+  where
+    go : Small g gs ⊎ Large g gs → length (wholeItems gs) ≡ 64 * length (endsOf gs) → length (wholeItems (g ∷ gs)) ≡ 64 * length (endsOf (g ∷ gs))
+    go (inl s) r = rw (s .whole, s .ends) r
+    go (inr s) r = rw (s .whole, s .ends) (simp (length-append, length-replicate) (omega (arith, s .many)))

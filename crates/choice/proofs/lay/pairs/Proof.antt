@@ -1,0 +1,88 @@
+-- `choice::lay::pairs` meets its contract. Assumes nothing.
+use borrow.Author.Needs.{needs}
+use Prim.Native.Nat.{_-_}
+use native.Mathlib.Omega.{arith}
+use lib.ListN.{length}
+use Rattle.choice.proofs.LayingPairs.{Pairing, pairing-none, pairing-more, pairing-room, pairing-part, pairing-end}
+use Rattle.choice.proofs.lay.pairs.Statement.{statement}
+use Rattle.choice.proofs.lay.pairs.Tie as tie
+
+abbrev Inv-loop : tie.InvT-loop
+Inv-loop group out₀ at w₀ i₀ out w i = Pairing group out₀ at out w i
+
+abbrev μ-loop : tie.MeasureT-loop
+μ-loop group out₀ at w₀ i₀ out w i = length group - i
+
+loop-holds : tie.Need-loop-holds Inv-loop μ-loop
+loop-holds c = pairing-none _ _ _
+
+mul-x : tie.Need-mul-x Inv-loop μ-loop
+mul-x c = search needs
+
+shared-slice-read-x : tie.Need-shared-slice-read-x Inv-loop μ-loop
+shared-slice-read-x c = search needs
+
+add-i : tie.Need-add-i Inv-loop μ-loop
+add-i c = search needs
+
+mul-pairs-with : tie.Need-mul-pairs-with Inv-loop μ-loop
+mul-pairs-with c = search needs
+
+sub-pairs-with : tie.Need-sub-pairs-with Inv-loop μ-loop
+sub-pairs-with c = search needs
+
+part-pairs-with-start : tie.Need-part-pairs-with-start Inv-loop μ-loop
+part-pairs-with-start c = search needs
+
+part-pairs-with-end : tie.Need-part-pairs-with-end Inv-loop μ-loop
+part-pairs-with-end c = search needs
+
+pairs-with-requires : tie.Need-pairs-with-requires Inv-loop μ-loop
+pairs-with-requires c κs =
+    let l = c .before .before .before .before in
+    pairing-part _ _ _ 0 (l .loop .out) (l .loop .w) (l .loop .i) (c .before .before .before .loop-test .taken) (l .loop .inv) (l .before .before .before .pre)
+
+sub-w : tie.Need-sub-w Inv-loop μ-loop
+sub-w c = search needs
+
+add-w : tie.Need-add-w Inv-loop μ-loop
+add-w c =
+    let l = c .before .before .before .before .before .before .before in
+    let s = l .before .before .before in
+    omega (arith, pairing-room _ _ _ 0 (l .loop .out) (l .loop .w) (l .loop .i) (c .before .before .before .before .before .before .loop-test .taken) (l .loop .inv) (s .pre), l .loop .inv .size, s .good .1 .0)
+
+loop-less : tie.Need-loop-less Inv-loop μ-loop
+loop-less c = search needs
+
+loop-again : tie.Need-loop-again Inv-loop μ-loop
+loop-again c =
+    let l = c .before .before .before .before .before .before .before in
+    pairing-more _ _ _ 0 (l .loop .out) (l .loop .w) (l .loop .i) (c .before .before .before .before .before .before .loop-test .taken) (l .loop .inv) _ (c .before .before .pairs-with .ensures)
+
+same-length : tie.Need-same-length Inv-loop μ-loop
+same-length c = c .before .loop .inv .size
+
+returns : tie.Need-returns Inv-loop μ-loop
+returns c = pairing-end _ _ _ _ _ _ (c .loop-test .left) (c .before .loop .inv)
+
+pub pairs-spec : {M : Type 1} → statement M
+pairs-spec =
+    tie.close
+    (tie.spec
+    Inv-loop
+    μ-loop
+    loop-holds
+    mul-x
+    shared-slice-read-x
+    add-i
+    mul-pairs-with
+    sub-pairs-with
+    part-pairs-with-start
+    part-pairs-with-end
+    pairs-with-requires
+    sub-w
+    add-w
+    loop-less
+    loop-again
+    same-length
+    returns)

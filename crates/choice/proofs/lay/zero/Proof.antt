@@ -1,0 +1,51 @@
+-- `choice::lay::zero` meets its contract. Assumes nothing.
+use borrow.Author.Needs.{needs}
+use Prim.Native.Nat.{_-_}
+use Rattle.lists.proofs.Storing.{Spreading, spreading-none, spreading-more, spreading-end}
+use Rattle.choice.proofs.lay.zero.Statement.{statement}
+use Rattle.choice.proofs.lay.zero.Tie as tie
+
+abbrev Inv-loop : tie.InvT-loop
+Inv-loop to₀ at until i₀ to i = Spreading 0 to₀ at until to i
+
+abbrev μ-loop : tie.MeasureT-loop
+μ-loop to₀ at until i₀ to i = until - i
+
+loop-holds : tie.Need-loop-holds Inv-loop μ-loop
+loop-holds c = spreading-none _ _ _ _ (search needs)
+
+mul-to : tie.Need-mul-to Inv-loop μ-loop
+mul-to c = search needs
+
+slice-write-to : tie.Need-slice-write-to Inv-loop μ-loop
+slice-write-to c = search needs
+
+add-i : tie.Need-add-i Inv-loop μ-loop
+add-i c = search needs
+
+loop-less : tie.Need-loop-less Inv-loop μ-loop
+loop-less c = search needs
+
+loop-again : tie.Need-loop-again Inv-loop μ-loop
+loop-again c = spreading-more _ _ _ _ _ _ (c .loop-test .taken) (c .before .loop .inv)
+
+same-length : tie.Need-same-length Inv-loop μ-loop
+same-length c = c .before .loop .inv .size
+
+returns : tie.Need-returns Inv-loop μ-loop
+returns c = spreading-end _ _ _ _ _ _ (c .loop-test .left) (c .before .loop .inv)
+
+pub zero-spec : {M : Type 1} → statement M
+zero-spec =
+    tie.close
+    (tie.spec
+    Inv-loop
+    μ-loop
+    loop-holds
+    mul-to
+    slice-write-to
+    add-i
+    loop-less
+    loop-again
+    same-length
+    returns)

@@ -1,0 +1,159 @@
+// Groups of vectors that agree so far. A group with fewer than two members is dropped: nothing in it can be told apart any further.
+ghost use Prim.Native.Nat.{_+_, _≤_, _<_};
+ghost use lib.ListN.{length};
+ghost use Rattle.lists.proofs.Members.{All};
+ghost use Rattle.vectors.proofs.Choice.Groups.{part, refined, whole};
+ghost use Rattle.vectors.specs.Bounds.{maxVectors};
+ghost use Rattle.choice.specs.Groups.{cut, groupsOf, valueAt, Cuts, Shape, GroupsAre, Listed, Room, Adds, Holds};
+
+// The members, indices from 0, group after group, and how long each group is.
+pub(crate) struct Groups {
+    pub order: [u16; 1024],
+    pub sizes: [u16; 1024],
+    pub members: usize,
+    pub count: usize,
+}
+
+// How many members and groups have been written.
+struct Extent {
+    members: usize,
+    count: usize,
+}
+
+// One group of all k vectors.
+pub(crate) fn all(k: usize) -> Groups
+    requires { ⌜ k ≤ maxVectors ⌝ }
+    ensures { λ r. ⌜ GroupsAre k (whole k) r ⌝ }
+{
+    let mut order = [0u16; 1024];
+    let mut sizes = [0u16; 1024];
+    if k < 2 {
+        return Groups {
+            order,
+            sizes,
+            members: 0,
+            count: 0,
+        };
+    }
+    sizes[0] = k as u16;
+    let mut i = 0;
+    while i < k {
+        order[i] = i as u16;
+        i += 1;
+    }
+    Groups {
+        order,
+        sizes,
+        members: k,
+        count: 1,
+    }
+}
+
+// Writes the members of the group whose value under the mask is bit, from place at on, and returns the place after them.
+fn members_with(
+    vectors: &[u64],
+    mask: u64,
+    bit: u64,
+    group: &[u16],
+    out: &mut [u16],
+    at: usize,
+) -> usize
+    requires { ⌜ All (λ i. i < length (now vectors)) (now group) ⌝ }
+    requires { ⌜ at + length (part (valueAt (now vectors) mask) bit (now group)) ≤ length (now out) ⌝ }
+    ensures { λ r. ⌜ Listed (part (valueAt (now (vectors .entry)) mask) bit (now (group .entry))) (now (out .entry)) at (now (out .exit)) r ⌝ }
+{
+    let mut w = at;
+    let mut i = 0;
+    while i < group.len() {
+        let m = group[i];
+        i += 1;
+        if vectors::value(mask, vectors[m as usize]) == bit {
+            out[w] = m;
+            w += 1;
+        }
+    }
+    w
+}
+
+// One half of a group, where it has two members or more.
+fn keep_half(
+    vectors: &[u64],
+    mask: u64,
+    bit: u64,
+    group: &[u16],
+    out: &mut [u16],
+    sizes: &mut [u16],
+    at: Extent,
+) -> Extent
+    requires { ⌜ All (λ i. i < length (now vectors)) (now group) ⌝ }
+    requires { ⌜ Room (part (valueAt (now vectors) mask) bit (now group)) (now out) (now sizes) at ⌝ }
+    ensures { λ r. ⌜ Adds (part (valueAt (now (vectors .entry)) mask) bit (now (group .entry))) (now (out .entry)) (now (sizes .entry)) at (now (out .exit)) (now (sizes .exit)) r ⌝ }
+{
+    let from = at.members;
+    let to = members_with(vectors, mask, bit, group, out, from);
+    if to - from < 2 {
+        return at;
+    }
+    let g = at.count;
+    sizes[g] = (to - from) as u16;
+    Extent {
+        members: to,
+        count: g + 1,
+    }
+}
+
+// Splits each group by the value under the mask, those with 0 before those with 1.
+fn split_all(
+    vectors: &[u64],
+    mask: u64,
+    order: &[u16],
+    sizes: &[u16],
+    out: &mut [u16],
+    out_sizes: &mut [u16],
+) -> Extent
+    requires { ⌜ Cuts (length (now vectors)) (now sizes) (now order) ⌝ }
+    requires { ⌜ (length (now order) ≤ maxVectors) × (length (now order) < length (now out)) × (length (now order) < length (now «out_sizes»)) ⌝ }
+    ensures { λ r. ⌜ Holds (refined (valueAt (now (vectors .entry)) mask) (cut (now (sizes .entry)) (now (order .entry)))) (now (out .exit)) (now («out_sizes» .exit)) r ⌝ }
+{
+    let mut at = Extent {
+        members: 0,
+        count: 0,
+    };
+    let mut from = 0;
+    let mut g = 0;
+    while g < sizes.len() {
+        let to = from + sizes[g] as usize;
+        at = keep_half(vectors, mask, 0, &order[from..to], out, out_sizes, at);
+        at = keep_half(vectors, mask, 1, &order[from..to], out, out_sizes, at);
+        from = to;
+        g += 1;
+    }
+    at
+}
+
+// The groups after one more mask.
+pub(crate) fn refined(vectors: &[u64], mask: u64, groups: Groups) -> Groups
+    requires { ⌜ (length (now vectors) ≤ maxVectors) × Shape (length (now vectors)) groups ⌝ }
+    ensures { λ r. ⌜ GroupsAre (length (now (vectors .entry))) (refined (valueAt (now (vectors .entry)) mask) (groupsOf groups)) r ⌝ }
+{
+    let order = groups.order;
+    let sizes = groups.sizes;
+    let m = groups.members;
+    let q = groups.count;
+    let mut next = [0u16; 1024];
+    let mut next_sizes = [0u16; 1024];
+    let at = split_all(
+        vectors,
+        mask,
+        &order[..m],
+        &sizes[..q],
+        &mut next,
+        &mut next_sizes,
+    );
+    Groups {
+        order: next,
+        sizes: next_sizes,
+        members: at.members,
+        count: at.count,
+    }
+}

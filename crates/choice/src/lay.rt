@@ -1,0 +1,127 @@
+// The groups laid out as items, 64 to a block.
+ghost use mathlib.Core.Path.{_≡_};
+ghost use mathlib.Core.List.{map};
+ghost use Prim.Native.Nat.{_+_, _-_, _*_, _≤_};
+ghost use lib.Bits.{bitXor};
+ghost use lib.ListN.{length, take, replicate};
+ghost use lib.Seq.{sets};
+ghost use Rattle.lists.specs.Cut.{cut};
+ghost use Rattle.choice.specs.Layout.{pairsOf, wholeItems, maxBlocks};
+ghost use Rattle.choice.specs.Inner.{Grouped, WholeLaid, PairsLaid, LaidOut};
+
+// How many blocks hold large groups, and how many items there are, with the 64 of each of these blocks.
+pub(crate) struct Laid {
+    pub whole: usize,
+    pub items: usize,
+}
+
+// The words, from place at on.
+pub(crate) fn copy(from: &[u64], to: &mut [u64], at: usize)
+    requires { ⌜ at + length (now from) ≤ length (now to) ⌝ }
+    ensures { λ r. ⌜ now (to .exit) ≡ sets (now (to .entry)) at (now (from .entry)) ⌝ }
+{
+    let mut i = 0;
+    while i < from.len() {
+        to[at + i] = from[i];
+        i += 1;
+    }
+}
+
+// Zeros, from place at until another.
+fn zero(to: &mut [u64], at: usize, until: usize)
+    requires { ⌜ (at ≤ until) × (until ≤ length (now to)) ⌝ }
+    ensures { λ r. ⌜ now (to .exit) ≡ sets (now (to .entry)) at (replicate (until - at) 0) ⌝ }
+{
+    let mut i = at;
+    while i < until {
+        to[i] = 0;
+        i += 1;
+    }
+}
+
+// The pairs of one member with each of the rest, from place at on.
+fn pairs_with(x: u64, rest: &[u64], out: &mut [u64], at: usize)
+    requires { ⌜ at + length (now rest) ≤ length (now out) ⌝ }
+    ensures { λ r. ⌜ now (out .exit) ≡ sets (now (out .entry)) at (map (bitXor x) (now (rest .entry))) ⌝ }
+{
+    let mut i = 0;
+    while i < rest.len() {
+        out[at + i] = x ^ rest[i];
+        i += 1;
+    }
+}
+
+// The pairs of a group, from place at on; the place after them.
+fn pairs(group: &[u64], out: &mut [u64], at: usize) -> usize
+    requires { ⌜ at + length (pairsOf (now group)) ≤ length (now out) ⌝ }
+    ensures { λ r. ⌜ (now (out .exit) ≡ sets (now (out .entry)) at (pairsOf (now (group .entry)))) × (r ≡ at + length (pairsOf (now (group .entry)))) ⌝ }
+{
+    let mut w = at;
+    let mut i = 0;
+    while i < group.len() {
+        let x = group[i];
+        i += 1;
+        pairs_with(x, &group[i..], out, w);
+        w += group.len() - i;
+    }
+    w
+}
+
+// The groups of more than 11 members, each from a new block on, with zeros up to the end of its last; how many blocks they take.
+fn lay_whole(words: &[u64], sizes: &[u16], items: &mut [u64], ends: &mut [u16]) -> usize
+    requires { ⌜ Grouped (now sizes) (now words) ⌝ }
+    requires { ⌜ (length (now items) ≡ 64 * maxBlocks) × (now ends ≡ replicate maxBlocks 0) ⌝ }
+    ensures { λ r. ⌜ WholeLaid (cut (now (sizes .entry)) (now (words .entry))) (now (items .exit)) (now (ends .exit)) r ⌝ }
+{
+    let mut whole = 0;
+    let mut from = 0;
+    let mut g = 0;
+    while g < sizes.len() {
+        let s = sizes[g];
+        let size = s as usize;
+        let start = from;
+        from += size;
+        g += 1;
+        if s > 11 {
+            let at = 64 * whole;
+            copy(&words[start..from], items, at);
+            whole += (size + 63) / 64;
+            zero(items, at + size, 64 * whole);
+            ends[whole - 1] = s;
+        }
+    }
+    whole
+}
+
+// The pairs of the other groups, from place at on; the place after them.
+fn lay_pairs(words: &[u64], sizes: &[u16], items: &mut [u64], at: usize) -> usize
+    requires { ⌜ Grouped (now sizes) (now words) ⌝ }
+    requires { ⌜ (length (now items) ≡ 64 * maxBlocks) × (take at (now items) ≡ wholeItems (cut (now sizes) (now words))) × (at ≡ length (wholeItems (cut (now sizes) (now words)))) ⌝ }
+    ensures { λ r. ⌜ PairsLaid (cut (now (sizes .entry)) (now (words .entry))) (now (items .exit)) r ⌝ }
+{
+    let mut w = at;
+    let mut from = 0;
+    let mut g = 0;
+    while g < sizes.len() {
+        let s = sizes[g];
+        let start = from;
+        from += s as usize;
+        g += 1;
+        if s <= 11 {
+            w = pairs(&words[start..from], items, w);
+        }
+    }
+    w
+}
+
+// The items of the groups: the large groups first, each from a new block on, then the pairs of the small ones.
+pub(crate) fn lay(words: &[u64], sizes: &[u16], items: &mut [u64], ends: &mut [u16]) -> Laid
+    requires { ⌜ Grouped (now sizes) (now words) ⌝ }
+    requires { ⌜ (length (now items) ≡ 64 * maxBlocks) × (now ends ≡ replicate maxBlocks 0) ⌝ }
+    ensures { λ r. ⌜ LaidOut (cut (now (sizes .entry)) (now (words .entry))) (now (items .exit)) (now (ends .exit)) r ⌝ }
+{
+    let whole = lay_whole(words, sizes, items, ends);
+    let n = lay_pairs(words, sizes, items, 64 * whole);
+    zero(items, n, 64 * ((n + 63) / 64));
+    Laid { whole, items: n }
+}

@@ -1,5 +1,0 @@
-pub mod Layout
-pub mod Gain
-pub mod Best
-pub mod Judged
-pub mod Inner
