@@ -2,10 +2,15 @@
 use Prim.Native.Nat.{ℕ, _+_, _-_, _≤_, _<_}
 use native.Mathlib.Omega.{arith}
 use native.Mathlib.Numerals.{add-one}
+use native.Mathlib.Nat.{add-zero}
 use mathlib.Core.Path.{_≡_, refl, sym, ap, _∙_}
+use mathlib.Core.Bool.{Bool, true, false}
 use mathlib.Core.List.{List, [], _∷_, _++_, map-append, flatten, append-nil, append-assoc}
+use lib.Dec.{eqb}
 use lib.ListN.{length, getD, take, drop, set, length-append, length-set, drop-of-length-le}
-use lib.Seq.{take-suc-set, take-take, take-at, drop-cons, append-snoc, length-take-le}
+use lib.Seq.{take-set-le, take-suc-set, take-take, take-at, drop-cons, append-snoc, length-take-le}
+use mir.Val.{boolByte}
+use borrow.Author.Tests.{eqb-true, eqb-false}
 use Rattle.lists.proofs.Members.{All}
 use Rattle.lists.proofs.Joined.{all-append}
 use Rattle.lists.proofs.Alls.{all-take, all-drop}
@@ -43,28 +48,40 @@ module _ (b : ℕ → ℕ) (v : ℕ) (group before : List ℕ) (at : ℕ) where
     left-cons : left i ≡ part b v (getD group i d ∷ drop (i + 1) group)
     left-cons = ap (part b v) (drop-cons group i d h ∙ rw (add-one i))
 
-    module _ (e : b (getD group i d) ≡ v) where
-      left-yes : left i ≡ getD group i d ∷ left (i + 1)
-      left-yes = left-cons ∙ part-yes b v (getD group i d) (drop (i + 1) group) e
+    module _ (r : at + length all < length before) where
+      pub listing-room : w < length out
+      listing-room = omega (arith, s .place, s .size)
 
-      pub listing-room : at + length all ≤ length before → w < length out
-      listing-room r = omega (arith, ap length left-yes, s .place, s .size)
-
-      pub listing-yes : at + length all ≤ length before → Listing (set out w (getD group i d)) (w + 1) (i + 1)
-      listing-yes r =
+      listing-yes : b (getD group i d) ≡ v → Listing (set out w (getD group i d)) (w + 1) (i + 1)
+      listing-yes q =
+          let e : left i ≡ getD group i d ∷ left (i + 1) = left-cons ∙ part-yes b v (getD group i d) (drop (i + 1) group) q in
           record {
             size = length-set out w (getD group i d) ∙ s .size;
             within = omega arith;
-            place = omega (arith, ap length left-yes, s .place);
+            place = omega (arith, ap length e, s .place);
             is =
-                rw (add-one w, take-suc-set out w (getD group i d) (listing-room r), append-snoc)
-                (ap (λ (l : List ℕ). take w out ++ l) (sym left-yes) ∙ s .is);
+                rw (add-one w, take-suc-set out w (getD group i d) listing-room, append-snoc)
+                (ap (λ (l : List ℕ). take w out ++ l) (sym e) ∙ s .is);
           }
 
-    pub listing-no : (b (getD group i d) ≡ v → ⊥) → Listing out w (i + 1)
-    listing-no n =
-        let e : left i ≡ left (i + 1) = left-cons ∙ part-no b v (getD group i d) (drop (i + 1) group) n in
-        record { size = s .size; within = omega arith; place = omega (arith, ap length e, s .place); is = ap (λ (l : List ℕ). take w out ++ l) (sym e) ∙ s .is }
+      -- the member is written after those that count
+      listing-no : (b (getD group i d) ≡ v → ⊥) → Listing (set out w (getD group i d)) w (i + 1)
+      listing-no n =
+          let e : left i ≡ left (i + 1) = left-cons ∙ part-no b v (getD group i d) (drop (i + 1) group) n in
+          record {
+            size = length-set out w (getD group i d) ∙ s .size;
+            within = omega arith;
+            place = omega (arith, ap length e, s .place);
+            is = rw (take-set-le w out w (getD group i d) (omega arith)) (ap (λ (l : List ℕ). take w out ++ l) (sym e) ∙ s .is);
+          }
+
+      -- either way, where x is the value of the member
+      pub listing-next : (x : ℕ) → x ≡ b (getD group i d) → Listing (set out w (getD group i d)) (w + boolByte (eqb x v)) (i + 1)
+      listing-next x e = go (eqb x v) refl
+        where
+          go : (t : Bool) → eqb x v ≡ t → Listing (set out w (getD group i d)) (w + boolByte t) (i + 1)
+          go true q = listing-yes (sym e ∙ eqb-true x v q)
+          go false q = rw (add-zero w) (listing-no (λ p. eqb-false x v q (e ∙ p)))
 
 -- ---- a half kept after the groups that are held
 
@@ -99,7 +116,7 @@ module _ (p order sizes after : List ℕ) (e : Extent) (to : ℕ) (l : Listed p 
       })
 
 room-of : {gs : List (List ℕ)} {order sizes : List ℕ} {e : Extent} (p : List ℕ) → Holds gs order sizes e → All (λ g. 2 ≤ length g) gs → length p ≤ maxVectors
-    → members gs + length p ≤ length order → members gs < length sizes → Room p order sizes e
+    → members gs + length p < length order → members gs < length sizes → Room p order sizes e
 room-of {gs} p s a few r q =
     record { few = few; order-room = omega (arith, s .total-is); sizes-room = omega (arith, s .count-is, members-many gs a) }
 

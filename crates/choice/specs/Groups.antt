@@ -54,10 +54,10 @@ pub record Holds (gs : List (List ℕ)) (order sizes : List ℕ) (e : Extent) : 
   pub order-is : take (e .members) order ≡ flatten gs
   pub sizes-are : take (e .count) sizes ≡ map length gs
 
--- room for a group more
+-- room for a group more, and a place after it, where a member that does not count may be written
 pub record Room (g : List ℕ) (order sizes : List ℕ) (e : Extent) : Type 0 where
   pub few : length g ≤ maxVectors
-  pub order-room : e .members + length g ≤ length order
+  pub order-room : e .members + length g < length order
   pub sizes-room : e .count < length sizes
 
 -- whatever groups were held, the group is held after them, unless it has fewer than two members

@@ -59,7 +59,7 @@ fn members_with(
     at: usize,
 ) -> usize
     requires { ⌜ All (λ i. i < length (now vectors)) (now group) ⌝ }
-    requires { ⌜ at + length (part (valueAt (now vectors) mask) bit (now group)) ≤ length (now out) ⌝ }
+    requires { ⌜ at + length (part (valueAt (now vectors) mask) bit (now group)) < length (now out) ⌝ }
     ensures { λ r. ⌜ Listed (part (valueAt (now (vectors .entry)) mask) bit (now (group .entry))) (now (out .entry)) at (now (out .exit)) r ⌝ }
 {
     let mut w = at;
@@ -67,10 +67,9 @@ fn members_with(
     while i < group.len() {
         let m = group[i];
         i += 1;
-        if vectors::value(mask, vectors[m as usize]) == bit {
-            out[w] = m;
-            w += 1;
-        }
+        // The next member is written over one that does not count: a branch on the value would be mispredicted half of the time.
+        out[w] = m;
+        w += (vectors::value(mask, vectors[m as usize]) == bit) as usize;
     }
     w
 }

@@ -2,11 +2,10 @@
 use borrow.Author.Needs.{needs}
 use Prim.Native.Nat.{_-_, _<_}
 use native.Mathlib.Omega.{arith}
-use mathlib.Core.Path.{_≡_, sym, _∙_}
 use lib.ListN.{length, getD}
 use Rattle.lists.proofs.Alls.{all-at}
 use Rattle.choice.specs.Groups.{valueAt}
-use Rattle.choice.proofs.GroupsSplit.{Listing, listing-none, listing-room, listing-yes, listing-no, listing-end}
+use Rattle.choice.proofs.GroupsSplit.{Listing, listing-none, listing-room, listing-next, listing-end}
 use Rattle.choice.proofs.groups.members_with.Statement.{statement}
 use Rattle.choice.proofs.groups.members_with.Tie as tie
 
@@ -21,16 +20,6 @@ low c =
     let a = c .before .before .before .before .before .args in
     all-at (λ i. i < length (a .vectors .now)) (a .group .now) (c .before .loop .i) 0 (c .before .before .before .before .before .pre .0) (c .loop-test .taken)
 
--- the member has the value
-same : (c : tie.Then1 Inv-loop μ-loop) → let a = c .before .before .before .before .before .before .before .before .before .args in
-    valueAt (a .vectors .now) (a .mask) (getD (a .group .now) (c .before .before .before .before .before .loop .i) 0) ≡ a .bit
-same c = sym (c .before .value .ensures) ∙ c .if1 .taken
-
-room : (c : tie.Then1 Inv-loop μ-loop) → c .before .before .before .before .before .loop .w < length (c .before .before .before .before .before .loop .out)
-room c =
-    let l = c .before .before .before .before .before in
-    listing-room _ _ _ _ _ 0 (l .loop .out) (l .loop .w) (l .loop .i) (c .before .before .before .before .loop-test .taken) (l .loop .inv) (same c) (l .before .before .before .before .pre .1)
-
 loop-holds : tie.Need-loop-holds Inv-loop μ-loop
 loop-holds c = listing-none _ _ _ _ _
 
@@ -42,6 +31,14 @@ shared-slice-read-m c = search needs
 
 add-i : tie.Need-add-i Inv-loop μ-loop
 add-i c = search needs
+
+mul-out : tie.Need-mul-out Inv-loop μ-loop
+mul-out c = search needs
+
+slice-write-out : tie.Need-slice-write-out Inv-loop μ-loop
+slice-write-out c =
+    let t = c .before in
+    listing-room _ _ _ _ _ 0 _ _ _ (t .loop-test .taken) (t .before .loop .inv) (t .before .before .before .before .before .pre .1)
 
 cast-value : tie.Need-cast-value Inv-loop μ-loop
 cast-value c = omega (arith, low (c .before))
@@ -55,30 +52,22 @@ shared-slice-read-value c = low (c .before .before)
 value-requires : tie.Need-value-requires Inv-loop μ-loop
 value-requires c κs = tt
 
-mul-out : tie.Need-mul-out Inv-loop μ-loop
-mul-out c = search needs
+cast-w : tie.Need-cast-w Inv-loop μ-loop
+cast-w c = tt
 
-slice-write-out : tie.Need-slice-write-out Inv-loop μ-loop
-slice-write-out c = room c
+-- before `add-w`, which reads the place from it
+loop-again : tie.Need-loop-again Inv-loop μ-loop
+loop-again c =
+    let t = c .before .before .before in
+    listing-next _ _ _ _ _ 0 _ _ _ (t .loop-test .taken) (t .before .loop .inv) (t .before .before .before .before .before .pre .1) (c .value .result) (c .value .ensures)
 
 add-w : tie.Need-add-w Inv-loop μ-loop
-add-w c = search needs
+add-w c =
+    let a = c .before .before .before .before .before .before .before .before in
+    omega (arith, loop-again c .place, a .pre .1, a .good .1 .1 .1 .1 .0)
 
 loop-less : tie.Need-loop-less Inv-loop μ-loop
 loop-less c = search needs
-
-loop-again : tie.Need-loop-again Inv-loop μ-loop
-loop-again c =
-    let l = c .before .before .before .before .before in
-    listing-yes _ _ _ _ _ 0 (l .loop .out) (l .loop .w) (l .loop .i) (c .before .before .before .before .loop-test .taken) (l .loop .inv) (same c) (l .before .before .before .before .pre .1)
-
-loop-less-2 : tie.Need-loop-less-2 Inv-loop μ-loop
-loop-less-2 c = search needs
-
-loop-again-2 : tie.Need-loop-again-2 Inv-loop μ-loop
-loop-again-2 c =
-    let l = c .before .before .before .before .before in
-    listing-no _ _ _ _ _ 0 (l .loop .out) (l .loop .w) (l .loop .i) (c .before .before .before .before .loop-test .taken) (l .loop .inv) (λ q. c .if1 .left (c .before .value .ensures ∙ q))
 
 same-length : tie.Need-same-length Inv-loop μ-loop
 same-length c = c .before .loop .inv .size
@@ -96,16 +85,15 @@ members-with-spec =
     mul-m
     shared-slice-read-m
     add-i
+    mul-out
+    slice-write-out
     cast-value
     mul-value
     shared-slice-read-value
     value-requires
-    mul-out
-    slice-write-out
+    cast-w
     add-w
     loop-less
     loop-again
-    loop-less-2
-    loop-again-2
     same-length
     returns)
