@@ -11,6 +11,7 @@ use lib.Seq.{sets, length-take-le}
 use borrow.Author.Tests.{le-leb, lt-leb, leb-true, leb-false}
 use Rattle.lists.specs.Cut.{cut, total}
 use Rattle.lists.proofs.Over.{Over, over-start, over-length, over-take, over-sets}
+use Rattle.vectors.specs.Bounds.{maxVectors}
 use Rattle.vectors.proofs.Choice.Groups.{members}
 use Rattle.choice.specs.Layout.{padded, pairsOf, wholeItems, endsOf, pairItems, itemsOf, blocksOf, maxBlocks, pairedMost}
 use Rattle.choice.specs.Inner.{Grouped, WholeLaid, PairsLaid, LaidOut}
@@ -96,7 +97,7 @@ cut-members [] l h = refl
 cut-members (s ∷ ss) l h = omega (arith, length-take-le s l (omega arith), cut-members ss (drop s l) (omega (arith, length-drop s l)))
 
 module _ {sizes words : List ℕ} (w : Grouped sizes words) where
-  all-members : members (cut sizes words) ≤ 1023
+  all-members : members (cut sizes words) ≤ maxVectors
   all-members = omega (arith, cut-members sizes words (omega (arith, w .sum)), w .sum, w .few)
 
   pub ends-room : length (endsOf (cut sizes words)) ≤ maxBlocks

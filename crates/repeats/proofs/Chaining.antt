@@ -12,7 +12,8 @@ use lib.ListN.{length, getD, take, set, replicate, length-set, length-replicate,
 use lib.Seq.{length-take-le, getD-take, getD-set-same, getD-set-other}
 use borrow.Author.Tests.{eqb-true, eqb-false}
 use Rattle.lists.proofs.Repeats.{repeated-none, repeated-at}
-use Rattle.repeats.specs.Repeats.{maxWords, repeatedIn}
+use Rattle.vectors.specs.Bounds.{maxVectors}
+use Rattle.repeats.specs.Repeats.{repeatedIn}
 use Rattle.repeats.specs.Chains.{slots, slotOf, Latest, Linked, Seen}
 use Rattle.repeats.proofs.Limit.{few}
 
@@ -50,23 +51,23 @@ latest-front words i n k s h l =
 pub record Chaining (words heads next : List ℕ) (i : ℕ) : Type 0 where
   pub within : i ≤ length words
   pub wide : length heads ≡ slots
-  pub long : length next ≡ maxWords + 1
+  pub long : length next ≡ maxVectors + 1
   pub latest : (s : ℕ) → s < slots → Latest words i (getD heads s 0) s
   pub linked : Linked words next i
   pub fresh : (a b : ℕ) → a < b → b < i → getD words a 0 ≡ getD words b 0 → ⊥
 
-pub chaining-none : (words : List ℕ) → Chaining words (replicate slots 0) (replicate (maxWords + 1) 0) 0
+pub chaining-none : (words : List ℕ) → Chaining words (replicate slots 0) (replicate (maxVectors + 1) 0) 0
 chaining-none words =
     record {
       within = omega arith;
       wide = length-replicate {A = ℕ} slots 0;
-      long = length-replicate {A = ℕ} (maxWords + 1) 0;
+      long = length-replicate {A = ℕ} (maxVectors + 1) 0;
       latest = λ s h. rw (getD-replicate {A = ℕ} slots s 0 0 h) (latest-none words s);
       linked = λ m h. absurd (omega arith);
       fresh = λ a b h k. absurd (omega arith);
     }
 
-module _ {words heads next : List ℕ} {i : ℕ} (fits : length words ≤ maxWords) (c : Chaining words heads next i) where
+module _ {words heads next : List ℕ} {i : ℕ} (fits : length words ≤ maxVectors) (c : Chaining words heads next i) where
   pub chaining-end : length words ≤ i → 0 ≡ repeatedIn words
   chaining-end h = sym (few words fits ∙ repeated-none words (λ a b p q. c .fresh a b p (omega arith)))
 

@@ -5,12 +5,13 @@ use mathlib.Core.List.{List}
 use lib.ListN.{length}
 use borrow.Author.Tests.{le-leb, lt-leb}
 use Rattle.lists.specs.First.{repeated}
-use Rattle.repeats.specs.Repeats.{maxWords, repeatedIn}
+use Rattle.vectors.specs.Bounds.{maxVectors}
+use Rattle.repeats.specs.Repeats.{repeatedIn}
 
-pub few : (words : List ℕ) → length words ≤ maxWords → repeatedIn words ≡ repeated words
+pub few : (words : List ℕ) → length words ≤ maxVectors → repeatedIn words ≡ repeated words
 unfolding repeatedIn
-few words h = rw (le-leb (length words) maxWords h)
+few words h = rw (le-leb (length words) maxVectors h)
 
-pub too-many : (words : List ℕ) → maxWords < length words → repeatedIn words ≡ 0
+pub too-many : (words : List ℕ) → maxVectors < length words → repeatedIn words ≡ 0
 unfolding repeatedIn
-too-many words h = rw (lt-leb (length words) maxWords h)
+too-many words h = rw (lt-leb (length words) maxVectors h)

@@ -2,7 +2,8 @@
 ghost use mathlib.Core.Path.{_≡_};
 ghost use Prim.Native.Nat.{_≤_, _<_};
 ghost use lib.ListN.{length};
-ghost use Rattle.repeats.specs.Repeats.{maxWords, repeatedIn};
+ghost use Rattle.vectors.specs.Bounds.{maxVectors};
+ghost use Rattle.repeats.specs.Repeats.{repeatedIn};
 ghost use Rattle.repeats.specs.Chains.{slots, slotOf, Latest, Linked, Seen};
 
 // The slot of a word: 11 bits that all 64 go into.
@@ -16,7 +17,7 @@ fn slot(x: u64) -> usize
 
 // Whether x is among the words; from is the number of the latest in its slot.
 fn seen(words: &[u64], next: &[u16; 1024], from: usize, x: u64) -> bool
-    requires { ⌜ (length (now words) ≤ maxWords) × Linked (now words) (now next) (length (now words)) × Latest (now words) (length (now words)) from (slotOf x) ⌝ }
+    requires { ⌜ (length (now words) ≤ maxVectors) × Linked (now words) (now next) (length (now words)) × Latest (now words) (length (now words)) from (slotOf x) ⌝ }
     ensures { λ r. ⌜ Seen (now (words .entry)) x r ⌝ }
 {
     let mut j = from;
