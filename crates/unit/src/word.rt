@@ -17,25 +17,26 @@ pub(crate) fn low(y: u64, n: u64) -> u64
 }
 
 // The bits of x at the set positions of the mask, the lowest first, a run of positions at a time.
+// The lowest run is cleared where it stands: a shorter chain from mask to mask than shifting it out.
 pub(crate) fn pack(mask: u64, x: u64) -> u64
     ensures { λ r. ⌜ r ≡ packIn maxInputs mask x ⌝ }
 {
     let mut w: u64 = 0;
     let mut k: u64 = 0;
     let mut m = mask;
-    let mut y = x;
     while m != 0 {
         let z = u64::trailing_zeros(m) as u64;
-        m = m >> z;
-        y = y >> z;
-        let n = u64::trailing_zeros(!m) as u64;
-        if n == 64 {
+        let y = x >> z;
+        let below = m | (m - 1);
+        // The run reaches the top of the word.
+        if below == 0xffffffffffffffff {
             return w + (y << k);
         }
+        let above = below + 1;
+        let n = u64::trailing_zeros(above) as u64 - z;
         w = w + (low(y, n) << k);
-        m = m >> n;
-        y = y >> n;
         k = k + n;
+        m = m & above;
     }
     w
 }

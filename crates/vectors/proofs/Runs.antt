@@ -1,188 +1,233 @@
--- A mask taken run by run: the zeros at its low end, then the ones, by counts of trailing zeros; w is the width of the word. Assumes nothing.
-use Prim.Native.Nat.{ℕ, zero, suc, _+_, _-_, _*_, _/_, _%_, _^_, _≤_, _<_}
-use native.Mathlib.Nat.{mod-lt, mod-one, zero-lt-suc, pow-suc, lt-of-lt-of-le, lt-of-le-of-lt, le-trans, lt-irrefl, div-one, one-mul, zero-add, mul-assoc, mul-comm, mul-add, div-lt-self, div-eq-of-lt, mod-eq-of-lt, mul-zero, add-zero}
+-- A mask taken run by run from its low end, each run cleared where it stands; w is the width of the word. Assumes nothing.
+use Prim.Native.Nat.{ℕ, zero, suc, _+_, _-_, _*_, _/_, _%_, _^_, min, max, _≤_, _<_, zero-le, suc-le-suc}
+use native.Mathlib.Nat.{mod-lt, mod-one, zero-lt-suc, pow-suc, lt-of-lt-of-le, lt-of-le-of-lt, le-trans, div-one, one-mul, zero-add, mul-assoc, mul-comm, mul-add, mul-zero, add-zero, sub-zero}
 use native.Mathlib.Numerals.{add-one}
-use native.Mathlib.Decide.{decLt}
 use native.Mathlib.Omega.{arith}
 use mathlib.Core.Path.{_≡_, refl, sym, ap, ap₂, _∙_, subst}
-use lib.Arith.{lt-one}
-use lib.Pow.{pow-add, pow-mono, pow-lt, pow-pos, shr-lt, shr-le, shl-exact, mod-pow-add}
-use lib.Count.{trailingZeros, under}
+use lib.Bits.{bitAnd, bitOr, and-step, or-step, and-self, or-self, and-comm, and-shifted, and-le-l}
+use lib.Pow.{pow-add, pow-pos, shr-lt, shl-exact, mod-pow-add, shr-mod}
+use lib.Count.{trailingZeros, trailing-le}
 use Rattle.vectors.specs.Word.{packBit, packIn}
 use Rattle.vectors.proofs.BitsLaws.{digit, half-lt, shr-suc}
-use Rattle.vectors.proofs.Packing.{pack-zero, pack-more}
+use Rattle.vectors.proofs.Packing.{pack-even, pack-zero}
 
-pack-half : (w m x : ℕ) → m < 2 ^ w → packIn w m x ≡ packBit (m % 2) (x % 2) (packIn w (m / 2) (x / 2))
-unfolding packIn
-pack-half zero m x h = rw (lt-one h)
-pack-half (suc e) m x h =
-    ap (packBit (m % 2) (x % 2)) (sym (ap (λ (d : ℕ). packIn d (m / 2) (x / 2)) (sym (add-one e)) ∙ pack-more e 1 (m / 2) (x / 2) (half-lt e h)))
+abbrev pub zerosOf : ℕ → ℕ → ℕ
+zerosOf w m = trailingZeros w m
 
-smaller : {m : ℕ} (k : ℕ) → m < 2 ^ k → m / 2 < 2 ^ k
-smaller {m} k h = lt-of-le-of-lt (shr-le m 1) h
+-- the mask's lowest run carried over: zeros up to the end of the run
+abbrev pub above : ℕ → ℕ
+above m = bitOr m (m - 1) + 1
 
--- ---- t zeros at the low end
+-- the mask without its lowest run
+abbrev pub rest : ℕ → ℕ
+rest m = bitAnd m (above m)
 
-record Skip (w m t : ℕ) : Type 0 where
-  odd : 0 < m → m / 2 ^ t % 2 ≡ 1
-  same : (x : ℕ) → packIn w m x ≡ packIn w (m / 2 ^ t) (x / 2 ^ t)
+-- ---- by the lowest digit
 
-skip-none : (w m : ℕ) → (0 < m → m % 2 ≡ 1) → Skip w m 0
-skip-none w m h = record { odd = λ p. ap (λ (n : ℕ). n % 2) (div-one m) ∙ h p; same = λ x. ap₂ (packIn w) (sym (div-one m)) (sym (div-one x)) }
+above-even : (m : ℕ) → 0 < m → m % 2 ≡ 0 → above m ≡ above (m / 2) * 2
+above-even m p e =
+    let a : (m - 1) / 2 ≡ m / 2 - 1 = omega arith in
+    let b : (m - 1) % 2 ≡ 1 = omega arith in
+    ap (λ (n : ℕ). n + 1)
+    (or-step m (m - 1) ∙ ap₂ (λ (q r : ℕ). bitOr (m / 2) q * 2 + max (m % 2) r) a b ∙ ap (λ (r : ℕ). bitOr (m / 2) (m / 2 - 1) * 2 + max r 1) e)
+    ∙ carry (bitOr (m / 2) (m / 2 - 1))
+  where
+    carry : (n : ℕ) → n * 2 + 1 + 1 ≡ (n + 1) * 2
+    carry n = omega arith
 
-skip-one : (w m t : ℕ) → m < 2 ^ w → m % 2 ≡ 0 → Skip w (m / 2) t → Skip w m (suc t)
-skip-one w m t h z s =
-    record {
-      odd = λ p. ap (λ (n : ℕ). n % 2) (sym (shr-suc m t)) ∙ s .odd (omega arith);
-      same = λ x. pack-half w m x h ∙ ap (λ (r : ℕ). packBit r (x % 2) (packIn w (m / 2) (x / 2))) z ∙ s .same (x / 2)
-          ∙ ap₂ (packIn w) (shr-suc m t) (shr-suc x t);
-    }
+above-odd : (m : ℕ) → m % 2 ≡ 1 → above m ≡ m + 1
+above-odd m e =
+    let a : (m - 1) / 2 ≡ m / 2 = omega arith in
+    let b : (m - 1) % 2 ≡ 0 = omega arith in
+    let c : m / 2 * 2 + 1 ≡ m = omega arith in
+    ap (λ (n : ℕ). n + 1)
+    (or-step m (m - 1) ∙ ap₂ (λ (q r : ℕ). bitOr (m / 2) q * 2 + max (m % 2) r) a b ∙ ap₂ (λ (q r : ℕ). q * 2 + max r 0) (or-self (m / 2)) e ∙ c)
 
-skips : (w k m : ℕ) → m < 2 ^ k → m < 2 ^ w → Skip w m (trailingZeros k m)
+and-twice : (m n : ℕ) → bitAnd m (n * 2) ≡ bitAnd (m / 2) n * 2
+and-twice m n =
+    let a : n * 2 / 2 ≡ n = omega arith in
+    let b : n * 2 % 2 ≡ 0 = omega arith in
+    and-step m (n * 2) ∙ ap₂ (λ (q r : ℕ). bitAnd (m / 2) q * 2 + min (m % 2) r) a b ∙ none (bitAnd (m / 2) n * 2) (m % 2)
+  where
+    none : (n r : ℕ) → n + min r 0 ≡ n
+    none n r = omega arith
+
+and-next : (m : ℕ) → m % 2 ≡ 0 → bitAnd m (m + 1) ≡ m
+and-next m e =
+    let a : (m + 1) / 2 ≡ m / 2 = omega arith in
+    let b : m / 2 * 2 ≡ m = omega arith in
+    and-step m (m + 1) ∙ ap₂ (λ (q r : ℕ). bitAnd (m / 2) q * 2 + min r ((m + 1) % 2)) a e ∙ ap (λ (q : ℕ). q * 2 + min 0 ((m + 1) % 2)) (and-self (m / 2)) ∙ none ((m + 1) % 2) b
+  where
+    none : (r : ℕ) → m / 2 * 2 ≡ m → m / 2 * 2 + min 0 r ≡ m
+    none r b = omega arith
+
+zeros-twice : (d n : ℕ) → zerosOf (suc d) (n * 2) ≡ suc (zerosOf d n)
 unfolding trailingZeros
-skips w zero m hk h = skip-none w m (λ p. absurd (lt-irrefl 0 (lt-of-lt-of-le p (omega (arith, lt-one hk)))))
-skips w (suc k) m hk h =
-    digit (λ r. m % 2 ≡ r → Skip w m (under r (trailingZeros k (m / 2))))
-    (λ z. skip-one w m _ h z (skips w k (m / 2) (half-lt k hk) (smaller w h)))
-    (λ z. skip-none w m (λ p. z))
-    m refl
+zeros-twice d n =
+    let a : n * 2 % 2 ≡ 0 = omega arith in
+    let b : n * 2 / 2 ≡ n = omega arith in
+    rw (a, b)
 
--- ---- t ones at the low end
+zeros-odd : (d n : ℕ) → n % 2 ≡ 1 → zerosOf (suc d) n ≡ 0
+unfolding trailingZeros
+zeros-odd d n e = rw e
 
-record Run (w m t : ℕ) : Type 0 where
-  low : 2 ^ t ≤ m + 1
-  some : m % 2 ≡ 1 → 0 < t
-  taken : (x : ℕ) → packIn w m x ≡ x % 2 ^ t + 2 ^ t * packIn w (m / 2 ^ t) (x / 2 ^ t)
+pack-twice : (d m x : ℕ) → packIn (suc d) (m * 2) x ≡ packIn d m (x / 2)
+pack-twice d m x = ap (λ (n : ℕ). packIn (suc d) n x) (mul-comm m 2) ∙ pack-even d m x
 
-run-none : (w m : ℕ) → m % 2 ≡ 0 → Run w m 0
-run-none w m z =
-    record {
-      low = omega arith;
-      some = λ o. omega arith;
-      taken = λ x. sym (ap₂ (λ (a b : ℕ). a + 1 * b) (mod-one x) (ap₂ (packIn w) (div-one m) (div-one x)) ∙ zero-add _ ∙ one-mul _);
-    }
+-- ---- t ones at the low end, and r without them
+
+record Run (d m t r : ℕ) : Type 0 where
+  taken : (x : ℕ) → packIn d m x ≡ x % 2 ^ t + 2 ^ t * packIn d r x
+
+run-none : (d m : ℕ) → Run d m 0 m
+run-none d m = record { taken = λ x. sym (ap (λ (a : ℕ). a + 1 * packIn d m x) (mod-one x) ∙ zero-add _ ∙ one-mul _) }
 
 -- the two digits of a sum of runs
 regroup : (a b c p : ℕ) → a + 2 * (b + p * c) ≡ (b * 2 + a) + (p * 2) * c
 regroup a b c p = omega (arith, mul-assoc p 2 c ∙ ap (λ (n : ℕ). p * n) (mul-comm 2 c) ∙ sym (mul-assoc p c 2))
 
-run-one : (w m t : ℕ) → m < 2 ^ w → m % 2 ≡ 1 → Run w (m / 2) t → Run w m (suc t)
-run-one w m t h z s =
+run-one : (d m t r : ℕ) → m % 2 ≡ 1 → Run d (m / 2) t r → Run (suc d) m (suc t) (r * 2)
+unfolding packIn
+run-one d m t r z s =
     record {
-      low = omega (arith, pow-suc 2 t, s .low);
-      some = λ o. zero-lt-suc t;
       taken = λ x.
-          pack-half w m x h ∙ ap (λ (r : ℕ). packBit r (x % 2) (packIn w (m / 2) (x / 2))) z
+          ap (λ (n : ℕ). packBit n (x % 2) (packIn d (m / 2) (x / 2))) z
           ∙ ap (λ (n : ℕ). x % 2 + 2 * n) (s .taken (x / 2))
-          ∙ regroup (x % 2) (x / 2 % 2 ^ t) (packIn w (m / 2 / 2 ^ t) (x / 2 / 2 ^ t)) (2 ^ t)
+          ∙ regroup (x % 2) (x / 2 % 2 ^ t) (packIn d r (x / 2)) (2 ^ t)
           ∙ ap₂ (λ (a b : ℕ). a + b) (sym (ap (λ (k : ℕ). x % 2 ^ k) (sym (add-one t)) ∙ mod-pow-add x t 1))
-          (ap₂ (λ (a b : ℕ). a * b) (sym (pow-suc 2 t)) (ap₂ (packIn w) (shr-suc m t) (shr-suc x t)));
+          (ap₂ (λ (a b : ℕ). a * b) (sym (pow-suc 2 t)) (sym (pack-twice d r x)));
     }
 
--- the complement, halved
-pub not-half : (p m : ℕ) → m < p * 2 → (p * 2 - 1 - m) / 2 ≡ p - 1 - m / 2
-not-half p m h = omega arith
+run : (d m : ℕ) → Run d m (zerosOf d (m + 1)) (bitAnd m (m + 1))
+unfolding trailingZeros packIn
+run zero m = record { taken = λ x. sym (add-zero (x % 1) ∙ mod-one x) }
+run (suc d) m =
+    digit (λ r. m % 2 ≡ r → Run (suc d) m (zerosOf (suc d) (m + 1)) (bitAnd m (m + 1)))
+    (λ e.
+    let o : (m + 1) % 2 ≡ 1 = omega arith in
+    rw (zeros-odd d (m + 1) o, and-next m e) (run-none (suc d) m))
+    (λ e.
+    let h : m + 1 ≡ (m / 2 + 1) * 2 = omega arith in
+    rw (h, zeros-twice d (m / 2 + 1), and-twice m (m / 2 + 1)) (run-one d m _ _ e (run d (m / 2))))
+    m refl
 
-pub not-low : (p m r : ℕ) → m < p * 2 → m % 2 ≡ r → (p * 2 - 1 - m) % 2 ≡ 1 - r
-not-low p m r h e = omega arith
+-- ---- the lowest run of a mask: from z up to t, and r without it
 
-runs : (w k m : ℕ) → m < 2 ^ k → m < 2 ^ w → Run w m (trailingZeros k (2 ^ k - 1 - m))
+record Lowest (d m z t r : ℕ) : Type 0 where
+  some : z < t
+  less : r < m
+  taken : (x : ℕ) → packIn d m x ≡ x / 2 ^ z % 2 ^ (t - z) + 2 ^ (t - z) * packIn d r x
+
+lowest-here : (d m t r : ℕ) → m % 2 ≡ 1 → r ≤ m / 2 → Run d m (suc t) (r * 2) → Lowest d m 0 (suc t) (r * 2)
+lowest-here d m t r o h s =
+    record {
+      some = zero-lt-suc t;
+      less = omega arith;
+      taken = λ x. rw (sub-zero (suc t), div-one x) (s .taken x);
+    }
+
+lowest-up : (d m z t r : ℕ) → m % 2 ≡ 0 → Lowest d (m / 2) z t r → Lowest (suc d) m (suc z) (suc t) (r * 2)
+unfolding packIn
+lowest-up d m z t r e s =
+    let n : t - z ≡ suc t - suc z = omega arith in
+    record {
+      some = suc-le-suc (s .some);
+      less = omega (arith, s .less);
+      taken = λ x.
+          ap (λ (a : ℕ). packBit a (x % 2) (packIn d (m / 2) (x / 2))) e ∙ s .taken (x / 2)
+          ∙ ap₂ (λ (a b : ℕ). a % 2 ^ (t - z) + 2 ^ (t - z) * b) (shr-suc x z) (sym (pack-twice d r x))
+          ∙ ap (λ (j : ℕ). x / 2 ^ suc z % 2 ^ j + 2 ^ j * packIn (suc d) (r * 2) x) n;
+    }
+
+abbrev LowestOf : ℕ → ℕ → Type 0
+LowestOf d m = Lowest d m (zerosOf d m) (zerosOf d (above m)) (rest m)
+
+lowest : (d m : ℕ) → 0 < m → m < 2 ^ d → LowestOf d m
 unfolding trailingZeros
-runs w zero m hk h = run-none w m (ap (λ (n : ℕ). n % 2) (lt-one hk))
-runs w (suc k) m hk h =
-    let g : m < 2 ^ k * 2 = rw pow-suc at hk in
-    rw pow-suc (rw (not-half (2 ^ k) m g)
-    (digit (λ r. m % 2 ≡ r → Run w m (under ((2 ^ k * 2 - 1 - m) % 2) (trailingZeros k (2 ^ k - 1 - m / 2))))
-    (λ z. rw (not-low (2 ^ k) m 0 g z) (run-none w m z))
-    (λ z. rw (not-low (2 ^ k) m 1 g z) (run-one w m _ h z (runs w k (m / 2) (half-lt k hk) (smaller w h))))
-    m refl))
+lowest zero m p h = absurd (omega arith)
+lowest (suc d) m p h =
+    digit (λ r. m % 2 ≡ r → LowestOf (suc d) m)
+    (λ e.
+    let q : m ≡ m / 2 * 2 = omega arith in
+    let z : zerosOf (suc d) m ≡ suc (zerosOf d (m / 2)) = ap (zerosOf (suc d)) q ∙ zeros-twice d (m / 2) in
+    rw (z, above-even m p e, zeros-twice d (above (m / 2)), and-twice m (above (m / 2)))
+    (lowest-up d m _ _ _ e (lowest d (m / 2) (omega arith) (half-lt d h))))
+    (λ e.
+    let q : m + 1 ≡ (m / 2 + 1) * 2 = omega arith in
+    rw (zeros-odd d m e, above-odd m e, q, zeros-twice d (m / 2 + 1), and-twice m (m / 2 + 1))
+    (lowest-here (suc d) m _ _ e (and-le-l (m / 2) (m / 2 + 1)) (run-one d m _ _ e (run d (m / 2)))))
+    m refl
 
--- ---- a turn of the loop: k bits taken before, the mask m and the vector y left; z zeros are skipped, and n ones taken of m₁ and y₁
+pub zeros-above : (w m : ℕ) → 0 < m → m < 2 ^ w → zerosOf w m < zerosOf w (above m)
+zeros-above w m p h = lowest w m p h .some
 
-abbrev pub zerosOf : ℕ → ℕ → ℕ
-zerosOf w m = trailingZeros w m
+pub zeros-lt : (w m : ℕ) → 0 < m → m < 2 ^ w → zerosOf w m < w
+zeros-lt w m p h = lt-of-lt-of-le (zeros-above w m p h) (trailing-le w (above m))
 
-abbrev pub onesOf : ℕ → ℕ → ℕ
-onesOf w m = trailingZeros w (2 ^ w - 1 - m)
+-- what is picked of a number has its zeros
+zeros-and : (d m n : ℕ) → zerosOf d n ≤ zerosOf d (bitAnd m n)
+unfolding trailingZeros
+zeros-and zero m n = zero-le
+zeros-and (suc d) m n =
+    digit (λ r. n % 2 ≡ r → zerosOf (suc d) n ≤ zerosOf (suc d) (bitAnd m n))
+    (λ e.
+    let q : n ≡ n / 2 * 2 = omega arith in
+    rw (q, zeros-twice d (n / 2), and-twice m (n / 2), zeros-twice d (bitAnd (m / 2) (n / 2))) (suc-le-suc (zeros-and d (m / 2) (n / 2))))
+    (λ e. rw (zeros-odd d n e) zero-le)
+    n refl
 
-pub record Turn (w k m y z m₁ y₁ n : ℕ) : Type 0 where
+zeros-pow : (w : ℕ) → zerosOf w (2 ^ w) ≡ w
+unfolding trailingZeros
+zeros-pow zero = refl
+zeros-pow (suc w) = rw (pow-suc 2 w, zeros-twice w (2 ^ w)) (ap suc (zeros-pow w))
+
+-- ---- a turn of the loop: k bits taken before, all of them below the zeros of the mask m that is left; n ones are taken from z up, and r is left
+
+pub record Turn (w k m x z n r : ℕ) : Type 0 where
   pub start : z < w
   pub room : k < w
-  pub fits : k + n ≤ w
-  pub less : m₁ / 2 ^ n < m
-  pub within : m₁ / 2 ^ n < 2 ^ (w - (k + n))
-  pub adds : 2 ^ k * packIn w m y ≡ y₁ % 2 ^ n * 2 ^ k % 2 ^ w + 2 ^ (k + n) * packIn w (m₁ / 2 ^ n) (y₁ / 2 ^ n)
-
-le-of-pow-le : (i j : ℕ) → 2 ^ i ≤ 2 ^ j → i ≤ j
-le-of-pow-le i j h = go (decLt j i)
-  where
-    go : Dec (j < i) → i ≤ j
-    go (yes l) = absurd (lt-irrefl _ (lt-of-lt-of-le (pow-lt l) h))
-    go (no l) = omega arith
+  pub kept : k + n ≤ zerosOf w r
+  pub less : r < m
+  pub adds : 2 ^ k * packIn w m x ≡ x / 2 ^ z % 2 ^ n * 2 ^ k % 2 ^ w + 2 ^ (k + n) * packIn w r x
 
 spread : (k n a b : ℕ) → 2 ^ k * (a + 2 ^ n * b) ≡ a * 2 ^ k + 2 ^ (k + n) * b
 spread k n a b =
     mul-add (2 ^ k) a (2 ^ n * b)
     ∙ ap₂ (λ (p q : ℕ). p + q) (mul-comm (2 ^ k) a) (sym (mul-assoc (2 ^ k) (2 ^ n) b) ∙ ap (λ (p : ℕ). p * b) (sym (pow-add 2 k n)))
 
-module _ (w k m y z n : ℕ) (p : 0 < m) (hk : k ≤ w) (hm : m < 2 ^ (w - k)) (hw : m < 2 ^ w) (s : Skip w m z) (r : Run w (m / 2 ^ z) n) where
-  z-lt : z < w
-  z-lt = go (decLt z w)
-    where
-      go : Dec (z < w) → z < w
-      go (yes l) = l
-      go (no l) = omega (arith, s .odd p, div-eq-of-lt (lt-of-lt-of-le hw (pow-mono {i = w} {j = z} (omega arith))))
-
-  k-lt : k < w
-  k-lt = go (decLt k w)
-    where
-      go : Dec (k < w) → k < w
-      go (yes l) = l
-      go (no l) = omega (arith, lt-of-lt-of-le hm (pow-mono {i = w - k} {j = 0} (omega arith)))
-
-  k-n : k + n ≤ w
-  k-n =
-      let l : m / 2 ^ z + 1 ≤ 2 ^ (w - k) = omega (arith, shr-le m z) in
-      omega (arith, le-of-pow-le n (w - k) (le-trans (r .low) l))
-
-  m-less : m / 2 ^ z / 2 ^ n < m
-  m-less =
-      let a : 0 < m / 2 ^ z = omega (arith, s .odd p) in
-      lt-of-lt-of-le (div-lt-self a (pow-lt (r .some (s .odd p)))) (shr-le m z)
-
-  m-within : m / 2 ^ z / 2 ^ n < 2 ^ (w - (k + n))
-  m-within =
-      let e : w - k ≡ (w - (k + n)) + n = omega (arith, k-n) in
-      shr-lt (w - (k + n)) n (lt-of-le-of-lt (shr-le m z) (rw (← e) hm))
-
-  m-adds : 2 ^ k * packIn w m y ≡ y / 2 ^ z % 2 ^ n * 2 ^ k % 2 ^ w + 2 ^ (k + n) * packIn w (m / 2 ^ z / 2 ^ n) (y / 2 ^ z / 2 ^ n)
-  m-adds =
-      ap (λ (q : ℕ). 2 ^ k * q) (s .same y ∙ r .taken (y / 2 ^ z))
-      ∙ spread k n (y / 2 ^ z % 2 ^ n) (packIn w (m / 2 ^ z / 2 ^ n) (y / 2 ^ z / 2 ^ n))
-      ∙ ap (λ (q : ℕ). q + 2 ^ (k + n) * packIn w (m / 2 ^ z / 2 ^ n) (y / 2 ^ z / 2 ^ n))
-      (sym (shl-exact n k w (mod-lt (y / 2 ^ z) (pow-pos n)) (omega (arith, k-n))))
-
-  turn-of : Turn w k m y z (m / 2 ^ z) (y / 2 ^ z) n
-  turn-of = record { start = z-lt; room = k-lt; fits = k-n; less = m-less; within = m-within; adds = m-adds }
-
 abbrev pub TurnAt : ℕ → ℕ → ℕ → ℕ → Type 0
-TurnAt w k m y = Turn w k m y (zerosOf w m) (m / 2 ^ zerosOf w m) (y / 2 ^ zerosOf w m) (onesOf w (m / 2 ^ zerosOf w m))
+TurnAt w k m x = Turn w k m x (zerosOf w m) (zerosOf w (above m) - zerosOf w m) (rest m)
 
--- a turn of the loop: zeros skipped, a run of ones taken
-pub turn : (w k m y : ℕ) → 0 < m → k ≤ w → m < 2 ^ (w - k) → TurnAt w k m y
-turn w k m y p hk hm =
-    let h : m < 2 ^ w = lt-of-lt-of-le hm (pow-mono {i = w - k} {j = w} (omega arith)) in
-    let h₁ : m / 2 ^ zerosOf w m < 2 ^ w = lt-of-le-of-lt (shr-le m (zerosOf w m)) h in
-    turn-of w k m y _ _ p hk hm h (skips w w m h h) (runs w w (m / 2 ^ zerosOf w m) h₁ h₁)
+module _ (w k m x : ℕ) (p : 0 < m) (h : m < 2 ^ w) (l : k ≤ zerosOf w m) where
+  pub turn : TurnAt w k m x
+  turn =
+      let s = lowest w m p h in
+      let z = zerosOf w m in
+      let n = zerosOf w (above m) - zerosOf w m in
+      let f : k + n ≤ zerosOf w (above m) = omega (arith, s .some) in
+      record {
+        start = zeros-lt w m p h;
+        room = lt-of-le-of-lt l (zeros-lt w m p h);
+        kept = le-trans f (zeros-and w m (above m));
+        less = s .less;
+        adds = ap (λ (q : ℕ). 2 ^ k * q) (s .taken x) ∙ spread k n (x / 2 ^ z % 2 ^ n) (packIn w (rest m) x)
+            ∙ ap (λ (q : ℕ). q + 2 ^ (k + n) * packIn w (rest m) x)
+            (sym (shl-exact n k w (mod-lt (x / 2 ^ z) (pow-pos n)) (omega (arith, f, trailing-le w (above m)))));
+      }
 
--- a run as wide as the word is all that is left
-pub turn-full : (w k m y z m₁ y₁ n : ℕ) → Turn w k m y z m₁ y₁ n → n ≡ w → y₁ < 2 ^ w → 2 ^ k * packIn w m y ≡ y₁ * 2 ^ k % 2 ^ w
-turn-full w k m y z m₁ y₁ n t e h =
-    let g : w - (k + w) ≡ 0 = omega arith in
-    let f : m₁ / 2 ^ w ≡ 0 = lt-one (subst (λ (d : ℕ). m₁ / 2 ^ w < 2 ^ d) g (subst (λ (j : ℕ). m₁ / 2 ^ j < 2 ^ (w - (k + j))) e (t .within))) in
-    subst (λ (j : ℕ). 2 ^ k * packIn w m y ≡ y₁ % 2 ^ j * 2 ^ k % 2 ^ w + 2 ^ (k + j) * packIn w (m₁ / 2 ^ j) (y₁ / 2 ^ j)) e (t .adds)
-    ∙ ap₂ (λ (a b : ℕ). a * 2 ^ k % 2 ^ w + 2 ^ (k + w) * b) (mod-eq-of-lt h) (ap (λ (a : ℕ). packIn w a (y₁ / 2 ^ w)) f ∙ pack-zero w (y₁ / 2 ^ w))
-    ∙ ap (λ (b : ℕ). y₁ * 2 ^ k % 2 ^ w + b) (mul-zero (2 ^ (k + w))) ∙ add-zero _
+  -- a run that reaches the top is all that is left
+  pub turn-full : x < 2 ^ w → above m ≡ 2 ^ w → 2 ^ k * packIn w m x ≡ x / 2 ^ zerosOf w m * 2 ^ k % 2 ^ w
+  turn-full hx e =
+      let z = zerosOf w m in
+      let g : (w - z) + z ≡ w = omega (arith, zeros-lt w m p h) in
+      let hx′ : x < 2 ^ ((w - z) + z) = rw g hx in
+      let r : bitAnd m (2 ^ w) ≡ 0 = and-comm m (2 ^ w) ∙ ap (λ (a : ℕ). bitAnd a m) (sym (one-mul (2 ^ w))) ∙ and-shifted 1 w m h in
+      let s : Lowest w m z (zerosOf w (2 ^ w)) (bitAnd m (2 ^ w)) = subst (λ (a : ℕ). Lowest w m z (zerosOf w a) (bitAnd m a)) e (lowest w m p h) in
+      let s′ : Lowest w m z w 0 = rw (zeros-pow w, r) at s in
+      ap (λ (q : ℕ). 2 ^ k * q)
+      (s′ .taken x ∙ ap₂ (λ (a b : ℕ). a + 2 ^ (w - z) * b) (shr-mod (w - z) z hx′) (pack-zero w x) ∙ ap (λ (b : ℕ). x / 2 ^ z + b) (mul-zero (2 ^ (w - z))) ∙ add-zero (x / 2 ^ z))
+      ∙ mul-comm (2 ^ k) (x / 2 ^ z) ∙ sym (shl-exact (w - z) k w (shr-lt (w - z) z hx′) (omega (arith, zeros-lt w m p h)))
 
-pub turn-none : (w k m y : ℕ) → m ≡ 0 → 2 ^ k * packIn w m y ≡ 0
-turn-none w k m y e = ap (λ (n : ℕ). 2 ^ k * packIn w n y) e ∙ ap (λ (n : ℕ). 2 ^ k * n) (pack-zero w y) ∙ mul-zero (2 ^ k)
+pub turn-none : (w k m x : ℕ) → m ≡ 0 → 2 ^ k * packIn w m x ≡ 0
+turn-none w k m x e = ap (λ (n : ℕ). 2 ^ k * packIn w n x) e ∙ ap (λ (n : ℕ). 2 ^ k * n) (pack-zero w x) ∙ mul-zero (2 ^ k)

@@ -10,7 +10,6 @@ use lib.Pow.{pow-mono}
 use Rattle.lists.proofs.Tests.{le-or-lt}
 use Rattle.vectors.specs.Bits.{bit}
 use Rattle.vectors.proofs.BitsLaws.{digit, half-lt, bit-suc, bit-shr, bit-word, bit-shl, bit-below}
-use Rattle.vectors.proofs.Runs.{not-half, not-low}
 
 -- ---- bits of OR, and of a shift by the place itself
 
@@ -89,6 +88,13 @@ module _ (x k : ℕ) (k< : k < 64) where
       go (inl m) = bit-from 1 k i m ∙ one-bit (i - k) (omega arith)
 
 -- ---- the first 0 of a word of k bits, which is the first 1 of its complement
+
+-- the complement, halved
+not-half : (p m : ℕ) → m < p * 2 → (p * 2 - 1 - m) / 2 ≡ p - 1 - m / 2
+not-half p m h = omega arith
+
+not-low : (p m r : ℕ) → m < p * 2 → m % 2 ≡ r → (p * 2 - 1 - m) % 2 ≡ 1 - r
+not-low p m r h e = omega arith
 
 -- n, of k bits at the most, is where the first 0 of x stands
 pub record FirstOpen (k x n : ℕ) : Type 0 where
