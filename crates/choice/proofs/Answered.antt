@@ -5,11 +5,12 @@ use native.Mathlib.Omega.{arith}
 use mathlib.Core.Path.{_≡_, refl, sym, ap, ap₂, subst, _∙_}
 use mathlib.Core.Bool.{Bool, true, false, cond, _||_}
 use mathlib.Core.List.{List, [], _∷_, _++_}
-use borrow.Author.Tests.{ltb-false, leb-false, eq-eqb}
+use borrow.Author.Tests.{ltb-false, leb-false, eq-eqb, eqb-false}
 use lib.Bits.{bitXor}
 use lib.Count.{ones}
 use lib.Dec.{eqb, leb, ltb}
-use lib.ListN.{length, replicate, take}
+use lib.ListN.{length, getD, replicate, take}
+use lib.Seq.{getD-take, length-take-le}
 use Rattle.lists.specs.Cut.{cut, total}
 use Rattle.lists.proofs.Members.{all-map}
 use Rattle.lists.proofs.Parts.{part-take}
@@ -20,16 +21,17 @@ use Rattle.vectors.specs.Variable.{valueOf, faulty}
 use Rattle.vectors.specs.Choice.{candidates, bestOf}
 use Rattle.vectors.proofs.Choice.Squares.{tally}
 use Rattle.vectors.proofs.Choice.Candidates.{candidates-sound}
-use Rattle.choice.specs.Layout.{maxBlocks, blocksOf, endsOf, itemsOf, block, columnOf, first, second, pairItems}
-use Rattle.choice.specs.Gain.{wholeGain, pairGain, gains, Counts, mostOf}
-use Rattle.vectors.specs.Bounds.{maxInputs, maxVectors}
+use Rattle.choice.specs.Layout.{maxBlocks, blocksOf, endsOf, itemsOf, block, columnOf, first, second}
+use Rattle.choice.specs.Gain.{wholeGain, pairGain, gains, Counts, mostOf, smallMost}
+use Rattle.vectors.specs.Bounds.{maxInputs}
 use Rattle.choice.specs.Best.{scoreOf, Searched}
 use Rattle.choice.specs.Judged.{maxGain, Drawn, tallyAt, gainAt, Sheet, Sheets, leftBy}
-use Rattle.choice.specs.Inner.{LaidOut}
+use Rattle.choice.specs.Inner.{Bounds, LaidOut}
 use Rattle.choice.specs.declared.lay.Laid.{Laid}
 use Rattle.choice.proofs.Columns.{value-linear, ones-columns}
-use Rattle.choice.proofs.Room.{ends-few, most-square, cut-most, halves}
-use Rattle.choice.proofs.Blocks.{blocks-gain, blocks-count, paired}
+use Rattle.choice.proofs.Halves.{halves, halves-low}
+use Rattle.choice.proofs.Laid.{ends-few}
+use Rattle.choice.proofs.Blocks.{blocks-gain, blocks-count, pairs-high}
 use Rattle.choice.proofs.Agree.{best-gains, gains-words}
 
 -- ---- tallies that are the same where they are looked at
@@ -62,28 +64,24 @@ module _ (t u : ℕ → ℕ) where
 
 -- ---- the inputs of a candidate
 
-pub inputs-in : (n : ℕ) (k : Kind) → faulty n k ≡ false → (first k ≤ n) × (second k ≤ n)
-inputs-in n (One i) f = (omega arith, ltb-false n i (or-false (eqb i 0) (ltb n i) f .1))
+pub inputs-in : (n : ℕ) (k : Kind) → faulty n k ≡ false → (first k ≤ n) × (second k ≤ n) × (0 < second k)
+inputs-in n (One i) f =
+    let a = or-false (eqb i 0) (ltb n i) f in
+    (omega arith, ltb-false n i (a .1), omega (arith, eqb-false i 0 (a .0)))
 inputs-in n (Two i j) f =
     let a = or-false (eqb i 0 || leb j i) (ltb n j) f in
     let l = leb-false j i (or-false (eqb i 0) (leb j i) (a .0) .1) in
     let m = ltb-false n j (a .1) in
-    (omega arith, m)
+    (omega arith, m, omega arith)
 
 -- ---- the sheet of groups
-
--- the groups' halves are below the limit
-pub halves-low : (sizes words : List ℕ) (n : ℕ) → Searched sizes words n → mostOf sizes ≤ maxGain
-halves-low sizes words n s =
-    let few : total sizes ≤ maxVectors = omega (arith, s .sum, s .few) in
-    le-trans (most-square sizes) (le-trans (mul-le-mul few few) (omega arith))
 
 -- how many blocks the groups take
 abbrev pub blocksIn : List (List ℕ) → ℕ
 blocksIn gs = blocksOf (length (itemsOf gs))
 
-module _ (sizes words columns : List ℕ) (n zeros : ℕ) (s : Searched sizes words n) (fit : blocksIn (cut sizes words) ≤ maxBlocks)
-    (d : Drawn (itemsOf (cut sizes words) ++ replicate zeros 0) columns (blocksIn (cut sizes words))) where
+module _ (sizes words columns rests : List ℕ) (n zeros : ℕ) (s : Searched sizes words n) (fit : blocksIn (cut sizes words) ≤ maxBlocks)
+    (r : Bounds (cut sizes words) rests (blocksIn (cut sizes words))) (d : Drawn (itemsOf (cut sizes words) ++ replicate zeros 0) columns (blocksIn (cut sizes words))) where
   abbrev gs : List (List ℕ)
   gs = cut sizes words
 
@@ -96,9 +94,13 @@ module _ (sizes words columns : List ℕ) (n zeros : ℕ) (s : Searched sizes wo
   low : (k : Kind) → gains (λ x. valueOf x k) gs ≤ maxGain
   low k = le-trans (gains-words k sizes words) (le-trans (mul-le-mul (s .few) (s .few)) (omega arith))
 
+  -- the halves of the large groups and of the small ones
+  halves-are : mostOf ends + smallMost gs ≡ mostOf sizes
+  halves-are = halves sizes words (s .sum)
+
   module _ (k : Kind) (right : faulty n k ≡ false) where
     abbrev t : ℕ → ℕ
-    t = tallyAt columns (maxBlocks * first k) (maxBlocks * second k)
+    t = tallyAt columns (first k) (second k)
 
     abbrev u : ℕ → ℕ
     u w = tally (λ x. valueOf x k) (block w (itemsOf gs ++ replicate zeros 0))
@@ -123,31 +125,33 @@ module _ (sizes words columns : List ℕ) (n zeros : ℕ) (s : Searched sizes wo
         ap₂ _+_ (whole-same t u ends 0 0 (λ w l m. tally-is w (omega (arith, whole-few)))) (pair-same t u (blocks - length ends) (length ends) (λ w l m. tally-is w (omega (arith, whole-few))))
         ∙ blocks-gain (λ x. valueOf x k) (value-linear k) gs zeros
 
-    -- the halves of the large groups leave room for the pairs of the small ones
-    halves-in : mostOf ends + tally (λ x. valueOf x k) (pairItems gs) ≤ mostOf sizes
-    halves-in = le-trans (halves (λ x. valueOf x k) (value-linear k) gs) (cut-most sizes words)
+    rests-is : length (take blocks rests) ≡ blocks
+    rests-is = length-take-le blocks rests (omega (arith, r .size))
 
-    pairs-low : pairGain (blocks - length ends) t (length ends) ≤ mostOf sizes - mostOf ends
-    pairs-low =
-        rw (pair-same t u (blocks - length ends) (length ends) (λ w l m. tally-is w (omega (arith, whole-few))))
-        (omega (arith, halves-in, paired (λ x. valueOf x k) (value-linear k) gs zeros))
+    -- the bound of a block is right
+    rests-high : (w : ℕ) → length ends ≤ w → w < blocks → pairGain (blocks - w) t w ≤ getD (take blocks rests) w 0
+    rests-high w a b =
+        rw (pair-same t u (blocks - w) w (λ v l m. tally-is v (omega arith)), getD-take blocks rests w 0 b)
+        (le-trans (pairs-high (λ x. valueOf x k) (value-linear k) gs zeros w b) (r .high (λ x. valueOf x k) (value-linear k) w a b))
 
-    serves : Sheet columns ends blocks (mostOf sizes) (first k) (second k)
+    serves : Sheet columns ends (take blocks rests) (mostOf sizes) (first k) (second k)
     serves =
         record {
           size = d .size;
-          whole = whole-few;
-          fit = fit;
+          whole = rw rests-is whole-few;
+          fit = rw rests-is fit;
           first-in = first-low;
           second-in = second-low;
+          second-some = inputs-in n k right .2;
           counts = counts-same t u ends 0 0 (λ w l m. tally-is w (omega (arith, whole-few))) (blocks-count (λ x. valueOf x k) (value-linear k) gs zeros);
-          low = rw gain-is (low k);
-          most-high = omega (arith, halves-in);
-          pairs-low = pairs-low;
-          most-low = halves-low sizes words n s;
+          low = rw (rests-is, gain-is) (low k);
+          most-high = omega (arith, halves-are);
+          most-low = halves-low sizes (omega (arith, s .sum, s .few));
+          rests-high = rw rests-is rests-high;
+          rests-low = rw rests-is (λ w a b. rw (getD-take blocks rests w 0 b) (omega (arith, r .low w a b, halves-are)));
         }
 
-  pub sheets : Sheets columns (endsOf (cut sizes words)) (blocksIn (cut sizes words)) (mostOf sizes) n
+  pub sheets : Sheets columns (endsOf (cut sizes words)) (take (blocksIn (cut sizes words)) rests) (mostOf sizes) n
   sheets k right = serves k right
 
   pub sheet-best : (degree : ℕ) → bestOf (leftBy columns (endsOf (cut sizes words)) (blocksIn (cut sizes words))) (candidates n degree) ≡ bestOf (scoreOf sizes words) (candidates n degree)
@@ -158,7 +162,11 @@ module _ (sizes words columns : List ℕ) (n zeros : ℕ) (s : Searched sizes wo
 
 -- ---- as the code has laid and drawn it
 
-module _ (sizes words items ends columns : List ℕ) (n : ℕ) (r : Laid) (s : Searched sizes words n) (o : LaidOut (cut sizes words) items ends r)
+-- a rest for each block
+pub rests-size : {gs : List (List ℕ)} {items ends rests : List ℕ} {r : Laid} → LaidOut gs items ends rests r → (r .items + 63) / 64 ≡ length (take ((r .items + 63) / 64) rests)
+rests-size {gs} {items} {ends} {rests} {r} o = sym (length-take-le ((r .items + 63) / 64) rests (omega (arith, o .few, o .count-is, o .bounds .size)))
+
+module _ (sizes words items ends rests columns : List ℕ) (n : ℕ) (r : Laid) (s : Searched sizes words n) (o : LaidOut (cut sizes words) items ends rests r)
     (d : Drawn items columns ((r .items + 63) / 64)) where
   zeros : ℕ
   zeros = 64 * blocksIn (cut sizes words) - length (itemsOf (cut sizes words))
@@ -176,13 +184,14 @@ module _ (sizes words items ends columns : List ℕ) (n : ℕ) (r : Laid) (s : S
   fits : blocksIn (cut sizes words) ≤ maxBlocks
   fits = omega (arith, o .few)
 
-  pub made-sheets : Sheets columns (take (r .whole) ends) ((r .items + 63) / 64) (mostOf sizes) n
+  pub made-sheets : Sheets columns (take (r .whole) ends) (take ((r .items + 63) / 64) rests) (mostOf sizes) n
   made-sheets =
-      subst (λ (l : List ℕ). Sheets columns l ((r .items + 63) / 64) (mostOf sizes) n) (sym (o .ends-are))
-      (subst (λ (m : ℕ). Sheets columns (endsOf (cut sizes words)) ((m + 63) / 64) (mostOf sizes) n) (sym (o .count-is))
-      (sheets sizes words columns n zeros s fits drawn))
+      subst (λ (l : List ℕ). Sheets columns l (take ((r .items + 63) / 64) rests) (mostOf sizes) n) (sym (o .ends-are))
+      (subst (λ (m : ℕ). Sheets columns (endsOf (cut sizes words)) (take ((m + 63) / 64) rests) (mostOf sizes) n) (sym (o .count-is))
+      (sheets sizes words columns rests n zeros s fits (o .bounds) drawn))
 
-  pub made-best : (degree : ℕ) → bestOf (leftBy columns (take (r .whole) ends) ((r .items + 63) / 64)) (candidates n degree) ≡ bestOf (scoreOf sizes words) (candidates n degree)
+  pub made-best : (degree : ℕ) → bestOf (leftBy columns (take (r .whole) ends) (length (take ((r .items + 63) / 64) rests))) (candidates n degree) ≡ bestOf (scoreOf sizes words) (candidates n degree)
   made-best degree =
-      ap₂ (λ (l : List ℕ) (m : ℕ). bestOf (leftBy columns l ((m + 63) / 64)) (candidates n degree)) (o .ends-are) (o .count-is)
-      ∙ sheet-best sizes words columns n zeros s fits drawn degree
+      let size : length (take ((r .items + 63) / 64) rests) ≡ blocksIn (cut sizes words) = sym (rests-size o) ∙ ap blocksOf (o .count-is) in
+      ap₂ (λ (l : List ℕ) (m : ℕ). bestOf (leftBy columns l m) (candidates n degree)) (o .ends-are) size
+      ∙ sheet-best sizes words columns rests n zeros s fits (o .bounds) drawn degree

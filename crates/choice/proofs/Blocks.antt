@@ -6,10 +6,10 @@ use native.Mathlib.Omega.{arith}
 use mathlib.Core.Path.{_≡_, refl, sym, ap, ap₂, _∙_}
 use mathlib.Core.List.{List, [], _∷_, _++_, append-assoc}
 use mathlib.Core.Logic.{_⊎_, inl, inr}
-use lib.ListN.{length, take, drop, replicate, length-append, length-take}
-use lib.Seq.{take-add, drop-drop, take-at, drop-at, take-append-add}
+use lib.ListN.{length, take, drop, replicate, length-append, take-append-drop}
+use lib.Seq.{take-add, drop-drop, take-at, drop-at, take-append-add, drop-append-le}
 use borrow.Author.Tests.{ne-eqb}
-use Rattle.vectors.proofs.Choice.Squares.{tally, tally-le, tally-append, tally-few}
+use Rattle.vectors.proofs.Choice.Squares.{tally, tally-le, tally-append, tally-few, tally-none}
 use Rattle.vectors.proofs.Xor.{Linear}
 use Rattle.choice.specs.Layout.{blocksOf, padded, pairsOf, wholeItems, endsOf, pairItems, itemsOf, block}
 use Rattle.choice.specs.Gain.{splits, gains, wholeGain, pairGain, Counts}
@@ -113,7 +113,7 @@ module _ (f : ℕ → ℕ) (l : Linear f) (gs : List (List ℕ)) (zeros : ℕ) w
   starts : items ≡ wholeItems gs ++ (pairItems gs ++ replicate zeros 0)
   starts = append-assoc (wholeItems gs) (pairItems gs) (replicate zeros 0)
 
-  pub paired : pairGain (blocksOf (length (itemsOf gs)) - length (endsOf gs)) (λ w. tally f (block w (itemsOf gs ++ replicate zeros 0))) (length (endsOf gs)) ≡ tally f (pairItems gs)
+  paired : pairGain (blocksOf (length (itemsOf gs)) - length (endsOf gs)) (λ w. tally f (block w (itemsOf gs ++ replicate zeros 0))) (length (endsOf gs)) ≡ tally f (pairItems gs)
   paired =
       let p : List ℕ = pairItems gs in
       let w : ℕ = length (endsOf gs) in
@@ -135,6 +135,13 @@ module _ (f : ℕ → ℕ) (l : Linear f) (gs : List (List ℕ)) (zeros : ℕ) w
   pub blocks-count : Counts (endsOf gs) (λ w. tally f (block w (itemsOf gs ++ replicate zeros 0))) 0 0
   blocks-count = wholes f l items (pairItems gs ++ replicate zeros 0) gs 0 starts .1
 
--- of 64 items
-pub counted-le : (f : ℕ → ℕ) → Linear f → (items : List ℕ) (w : ℕ) → counted f items w ≤ 64
-counted-le f l items w = omega (arith, tally-le f (l .low) (block w items), length-take 64 (drop (64 * w) items))
+  -- the blocks from w on have no more than the items from there on
+  pub pairs-high : (w : ℕ) → w < blocksOf (length (itemsOf gs))
+      → pairGain (blocksOf (length (itemsOf gs)) - w) (λ w. tally f (block w (itemsOf gs ++ replicate zeros 0))) w ≤ tally f (drop (64 * w) (itemsOf gs))
+  pairs-high w h =
+      let n : ℕ = 64 * (blocksOf (length (itemsOf gs)) - w) in
+      let l′ : List ℕ = drop (64 * w) items in
+      let in-it : 64 * w ≤ length (itemsOf gs) = omega arith in
+      let e : tally f l′ ≡ tally f (drop (64 * w) (itemsOf gs)) + tally f (replicate zeros 0) =
+      ap (tally f) (drop-append-le (64 * w) (itemsOf gs) (replicate zeros 0) in-it) ∙ tally-append f (drop (64 * w) (itemsOf gs)) (replicate zeros 0) in
+      omega (arith, pair-run f items (blocksOf (length (itemsOf gs)) - w) w, tally-append f (take n l′) (drop n l′), ap (tally f) (take-append-drop n l′), e, tally-none f (l .zero) zeros)

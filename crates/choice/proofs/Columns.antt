@@ -1,12 +1,10 @@
 -- Columns of the items: the ones of a candidate's two columns, XORed, are the items at which its value is 1. Assumes nothing.
-use Prim.Native.Nat.{ℕ, _+_, _*_, _/_, _%_, _^_, _<_}
-use native.Mathlib.Nat.{pow-suc, zero-lt-suc}
+use Prim.Native.Nat.{ℕ, _+_, _*_, _/_, _%_, _<_}
 use native.Mathlib.Omega.{arith}
 use mathlib.Core.Path.{_≡_, refl, ap, ap₂, _∙_, fun-ext}
 use mathlib.Core.List.{List, [], _∷_}
 use lib.Bits.{bitXor, and-comm}
 use lib.Count.{ones, ones-step}
-use lib.ListN.{length}
 use Rattle.vectors.specs.declared.Kind.{Kind}
 use Rattle.vectors.specs.declared.Kind.the-variants.{One, Two}
 use Rattle.vectors.specs.Bits.{input}
@@ -57,8 +55,3 @@ pub column-zero : (xs : List ℕ) → columnOf 0 xs ≡ 0
 unfolding columnOf
 column-zero [] = refl
 column-zero (x ∷ xs) = omega (arith, column-zero xs)
-
-pub column-lt : (i : ℕ) (xs : List ℕ) → columnOf i xs < 2 ^ length xs
-unfolding columnOf
-column-lt i [] = zero-lt-suc 0
-column-lt i (x ∷ xs) = omega (arith, input-lt x i, column-lt i xs, pow-suc 2 (length xs))

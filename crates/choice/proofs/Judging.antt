@@ -1,22 +1,35 @@
 -- The loops that judge a candidate, block by block. Assumes nothing.
-use Prim.Native.Nat.{ℕ, suc, _+_, _-_, _*_, _≤_, _<_, zero, _/_, _^_}
+use Prim.Native.Nat.{ℕ, suc, _+_, _-_, _*_, _≤_, _<_, zero, _/_}
 use native.Mathlib.Omega.{arith}
-use native.Mathlib.Nat.{mul-le-mul}
+use native.Mathlib.Nat.{mul-le-mul, add-zero, eq-or-lt-of-le}
 use native.Mathlib.Numerals.{add-one}
 use mathlib.Core.Path.{_≡_, sym, ap, ap₂, _∙_, refl}
 use mathlib.Core.Bool.{Bool, cond, true, false}
 use mathlib.Core.List.{List, [], _∷_}
+use mathlib.Core.Logic.{_⊎_, inl, inr}
 use borrow.Author.Tests.{eq-eqb, ne-eqb, eqb-true, eqb-false}
-use lib.Bits.{xor-lt}
-use lib.Count.{ones-le}
+use lib.Bits.{bitXor}
 use lib.Dec.{eqb}
 use lib.ListN.{length, getD, drop, drop-of-length-le}
 use lib.Seq.{drop-cons}
-use Rattle.choice.specs.Layout.{maxBlocks, first, second}
+use Rattle.choice.specs.Layout.{first, second}
 use Rattle.vectors.specs.declared.Kind.{Kind}
 use Rattle.choice.proofs.Splits.{splits-half}
-use Rattle.choice.specs.Judged.{maxGain, tallyAt, gainAt, leftBy, Judges}
+use Rattle.choice.specs.Judged.{maxGain, columnAt, crossAt, tallyAt, gainAt, leftBy, Pairs, Sheet, Judges}
 use Rattle.choice.specs.Gain.{splits, wholeGain, mostOf, pairGain, Counts}
+
+-- ---- two columns
+
+column-at : (columns : List ℕ) (i w : ℕ) → 0 < i → getD columns (64 * w + i - 1) 0 ≡ columnAt columns i w
+column-at columns zero w h = absurd (omega arith)
+column-at columns (suc i) w h = ap (λ (x : ℕ). getD columns x 0) (omega arith)
+
+module _ (columns : List ℕ) (i j w : ℕ) (h : 0 < j) where
+  pub crossed-one : i ≡ 0 → getD columns (64 * w + j - 1) 0 ≡ crossAt columns i j w
+  crossed-one e = rw e (column-at columns j w h)
+
+  pub crossed-two : (i ≡ 0 → ⊥) → bitXor (getD columns (64 * w + i - 1) 0) (getD columns (64 * w + j - 1) 0) ≡ crossAt columns i j w
+  crossed-two n = ap₂ bitXor (column-at columns i w (omega arith)) (column-at columns j w h)
 
 -- ---- large groups
 
@@ -148,54 +161,122 @@ module _ (ends : List ℕ) (t : ℕ → ℕ) (pairs : ℕ) where
 
 -- ---- small groups
 
--- a block has at most 64 ones
-pub tally-few : (columns : List ℕ) (a b : ℕ) → ((x : ℕ) → getD columns x 0 < 2 ^ 64) → (w : ℕ) → tallyAt columns a b w ≤ 64
-tally-few columns a b h w = ones-le 64 _ (xor-lt 64 (getD columns (a + w) 0) (getD columns (b + w) 0) (h (a + w)) (h (b + w)))
-
-pair-few : (t : ℕ → ℕ) → ((w : ℕ) → t w ≤ 64) → (d w : ℕ) → pairGain d t w ≤ 64 * d
+-- the first n blocks, and the others
+pair-parts : (t : ℕ → ℕ) (n d w : ℕ) → pairGain (n + d) t w ≡ pairGain n t w + pairGain d t (w + n)
 unfolding pairGain
-pair-few t l zero w = omega arith
-pair-few t l (suc d) w = omega (arith, l w, pair-few t l d (suc w))
+pair-parts t zero d w = let e : zero + d ≡ d = omega arith in rw (e, add-zero w) (omega arith)
+pair-parts t (suc n) d w =
+    let e : suc n + d ≡ suc (n + d) = omega arith in
+    let q : suc w + n ≡ w + suc n = omega arith in
+    rw e (omega (arith, pair-parts t n d (suc w), ap (λ (v : ℕ). pairGain d t v) q))
 
-module _ (t : ℕ → ℕ) (from to start : ℕ) where
-  pub record Pairing (gain w : ℕ) : Type 0 where
-    pub low : from ≤ w
-    pub within : w ≤ to
-    pub few : gain ≤ start + 64 * (w - from)
-    pub sum : gain + pairGain (to - w) t w ≡ start + pairGain (to - from) t from
+-- one block, and three
+pub pair-one : (t : ℕ → ℕ) (w v : ℕ) → v ≡ t w → v ≡ pairGain 1 t w
+unfolding pairGain
+pair-one t w v e = omega (arith, e)
 
-  pub pairing-start : from ≤ to → Pairing start from
-  pairing-start h = record { low = omega arith; within = h; few = omega arith; sum = omega arith }
+pub pair-three : (t : ℕ → ℕ) (w v : ℕ) → v ≡ t w + t (w + 1) + t (w + 2) → v ≡ pairGain 3 t w
+unfolding pairGain
+pair-three t w v e =
+    let p : w + 1 ≡ suc w = omega arith in
+    let q : w + 2 ≡ suc (suc w) = omega arith in
+    omega (arith, e, ap t p, ap t q)
 
-  pub pairing-on : (gain w v : ℕ) → w < to → v ≡ t w → v ≤ 64 → Pairing gain w → Pairing (gain + v) (w + 1)
-  unfolding pairGain
-  pairing-on gain w v h is l s =
-      let e : to - w ≡ suc (to - (w + 1)) = omega arith in
-      let q : pairGain (to - w) t w ≡ t w + pairGain (to - (w + 1)) t (suc w) = ap (λ (d : ℕ). pairGain d t w) e in
-      let r : gain + t w + pairGain (to - (w + 1)) t (suc w) ≡ start + pairGain (to - from) t from = omega (arith, q, s .sum) in
-      rw is
-      record { low = omega (arith, s .low); within = omega arith; few = omega (arith, s .few, s .low, is); sum = rw (add-one w) (rw (add-one w) at r) }
+module _ (columns rests : List ℕ) (i j : ℕ) where
+  -- what is counted, and what the blocks from w on have
+  abbrev counted : ℕ → ℕ → ℕ
+  counted gain w = gain + pairGain (length rests - w) (tallyAt columns i j) w
 
-  pub pairing-all : (gain w : ℕ) → to ≤ w → Pairing gain w → gain ≡ start + pairGain (to - from) t from
-  unfolding pairGain
-  pairing-all gain w h s =
-      let e : to - w ≡ 0 = omega arith in
-      let z : pairGain (to - w) t w ≡ 0 = ap (λ (d : ℕ). pairGain d t w) e in
-      omega (arith, s .sum)
+  pub record Pairing (from start gain w : ℕ) : Type 0 where
+    pub pairs : Pairs columns rests i j w gain
+    pub sum : counted gain w ≡ counted start from
 
-  -- given up: 64 a block do not come above beat
-  pub pairing-low : (gain w beat : ℕ) → Pairing gain w → ((v : ℕ) → t v ≤ 64) → gain + 64 * (to - w) ≤ beat → Judges (start + pairGain (to - from) t from) beat gain
-  pairing-low gain w beat s m h = record { above = λ l. absurd (omega arith); below = λ l. omega (arith, s .sum, pair-few t m (to - w) w) }
+  module _ (from start : ℕ) where
+    pub pairing-start : Pairs columns rests i j from start → Pairing from start start from
+    pairing-start p = record { pairs = p; sum = refl }
+
+    module _ (gain w : ℕ) (s : Pairing from start gain w) where
+      -- n blocks more
+      module _ (n v : ℕ) (h : w + n ≤ length rests) (is : v ≡ pairGain n (tallyAt columns i j) w) where
+        parts : gain + v + pairGain (length rests - (w + n)) (tallyAt columns i j) (w + n) ≡ counted gain w
+        parts =
+            let e : length rests - w ≡ n + (length rests - (w + n)) = omega arith in
+            omega (arith, is, ap (λ (d : ℕ). pairGain d (tallyAt columns i j) w) e, pair-parts (tallyAt columns i j) n (length rests - (w + n)) w)
+
+        pub pairing-low : gain + v ≤ maxGain
+        pairing-low = omega (arith, parts, s .pairs .sum-low)
+
+        pub pairing-on : Pairing from start (gain + v) (w + n)
+        pairing-on =
+            let p = s .pairs in
+            record {
+              pairs =
+                  record {
+                    size = p .size;
+                    first-in = p .first-in;
+                    second-in = p .second-in;
+                    second-some = p .second-some;
+                    fit = p .fit;
+                    within = h;
+                    high = λ x a b. p .high x (omega arith) b;
+                    low = λ x a b. p .low x (omega arith) b;
+                    sum-low = omega (arith, parts, p .sum-low);
+                  };
+              sum = parts ∙ s .sum;
+            }
+
+      pub pairing-all : length rests ≤ w → gain ≡ counted start from
+      unfolding pairGain
+      pairing-all h =
+          let e : length rests - w ≡ 0 = omega arith in
+          let z : pairGain (length rests - w) (tallyAt columns i j) w ≡ 0 = ap (λ (d : ℕ). pairGain d (tallyAt columns i j) w) e in
+          omega (arith, s .sum)
+
+      module _ (h : w < length rests) where
+        -- a bound and what is counted are low
+        pub rest-low : gain + getD rests w 0 ≤ 2 * maxGain
+        rest-low = omega (arith, s .pairs .low w (omega arith) h, s .pairs .sum-low)
+
+        -- given up: the rest does not come above beat
+        pub pairing-given : (beat : ℕ) → gain + getD rests w 0 ≤ beat → Judges (counted start from) beat gain
+        pairing-given beat b = record { above = λ l. absurd (omega arith); below = λ l. omega (arith, s .sum, s .pairs .high w (omega arith) h) }
 
 -- ---- both
 
-module _ (columns ends : List ℕ) (blocks i j v w : ℕ) (p : v ≡ wholeGain ends (tallyAt columns (maxBlocks * i) (maxBlocks * j)) 0 0)
-    (q : w ≡ pairGain (blocks - length ends) (tallyAt columns (maxBlocks * i) (maxBlocks * j)) (length ends)) where
+module _ (columns ends : List ℕ) (blocks i j v w : ℕ) (p : v ≡ wholeGain ends (tallyAt columns i j) 0 0)
+    (q : w ≡ pairGain (blocks - length ends) (tallyAt columns i j) (length ends)) where
   pub gain-sum : v + w ≡ gainAt columns ends blocks i j
   unfolding gainAt
   gain-sum = ap₂ _+_ p q
 
-pub gain-whole : (columns ends : List ℕ) (blocks i j : ℕ) → wholeGain ends (tallyAt columns (maxBlocks * i) (maxBlocks * j)) 0 0 ≤ gainAt columns ends blocks i j
+-- the pairs of the small groups, with what the large ones have
+module _ (columns ends rests : List ℕ) (most i j : ℕ) (s : Sheet columns ends rests most i j) where
+  pub sheet-pairs : (v : ℕ) → v ≡ wholeGain ends (tallyAt columns i j) 0 0 → Pairs columns rests i j (length ends) v
+  sheet-pairs v e =
+      record {
+        size = s .size;
+        first-in = s .first-in;
+        second-in = s .second-in;
+        second-some = s .second-some;
+        fit = s .fit;
+        within = s .whole;
+        high = s .rests-high;
+        low = λ w a b. omega (arith, s .rests-low w a b, s .most-low);
+        sum-low = omega (arith, s .low, gain-sum columns ends (length rests) i j v _ e refl);
+      }
+
+  -- they are no more than the halves of the large groups leave
+  pub sheet-low : pairGain (length rests - length ends) (tallyAt columns i j) (length ends) ≤ most - mostOf ends
+  unfolding pairGain
+  sheet-low = go (eq-or-lt-of-le (s .whole))
+    where
+      go : (length ends ≡ length rests) ⊎ (length ends < length rests) → pairGain (length rests - length ends) (tallyAt columns i j) (length ends) ≤ most - mostOf ends
+      go (inl e) =
+          let z : length rests - length ends ≡ 0 = omega arith in
+          rw z (omega arith)
+      go (inr h) = omega (arith, s .rests-high (length ends) (omega arith) h, s .rests-low (length ends) (omega arith) h)
+
+pub gain-whole : (columns ends : List ℕ) (blocks i j : ℕ) → wholeGain ends (tallyAt columns i j) 0 0 ≤ gainAt columns ends blocks i j
 unfolding gainAt
 gain-whole columns ends blocks i j = omega arith
 

@@ -9,7 +9,7 @@ use Rattle.lists.specs.Cut.{cut, total}
 use Rattle.lists.proofs.Over.{Filling, over-start, filling-start, filling-length, filling-room, filling-same, filling-sets, filling-zeros, filling-end}
 use Rattle.lists.proofs.Walk.{Walk, rest, lent, walk-start, walk-end, walk-next, walk-cut, walk-length}
 use Rattle.choice.specs.Layout.{padded, wholeItems, endsOf, pairedMost}
-use Rattle.choice.proofs.Laying.{whole-large, whole-small, ends-large, ends-small}
+use Rattle.choice.proofs.Laid.{Large, small, large}
 
 -- the large groups before group g are laid, in whole blocks; old is what stood among the items, and m blocks have room
 pub record Laying (old : List ℕ) (m : ℕ) (sizes words items ends : List ℕ) (whole from g : ℕ) : Type 0 where
@@ -50,8 +50,8 @@ module _ (old : List ℕ) (m : ℕ) (sizes words : List ℕ) where
           let p : length group ≤ pairedMost = omega (arith, size) in
           record {
             walk = walk-next (l .walk) d h;
-            items-are = filling-same (wholeItems others) (ap wholeItems (walk-cut (l .walk) d h) ∙ whole-small group others p) (l .items-are);
-            ends-are = filling-same (endsOf others) (ap endsOf (walk-cut (l .walk) d h) ∙ ends-small group others p) (l .ends-are);
+            items-are = filling-same (wholeItems others) (ap wholeItems (walk-cut (l .walk) d h) ∙ small group others p .whole) (l .items-are);
+            ends-are = filling-same (endsOf others) (ap endsOf (walk-cut (l .walk) d h) ∙ small group others p .ends) (l .ends-are);
           }
 
       module _ (s : pairedMost < getD sizes g d) (i-room : length (wholeItems (cut sizes words)) ≤ length old) (e-room : length (endsOf (cut sizes words)) ≤ m) where
@@ -61,19 +61,19 @@ module _ (old : List ℕ) (m : ℕ) (sizes words : List ℕ) where
         abbrev zeros : List ℕ
         zeros = replicate (64 * blocks - getD sizes g d) 0
 
-        large : pairedMost < length group
-        large = omega (arith, size)
+        many : Large group others
+        many = large group others (omega (arith, size))
 
         items-next : Filling old (wholeItems (cut sizes words)) (group ++ (zeros ++ wholeItems others)) items (64 * whole)
         unfolding padded
         items-next =
             filling-same (group ++ (zeros ++ wholeItems others))
-            (ap wholeItems (walk-cut (l .walk) d h) ∙ whole-large group others large ∙ rw size (append-assoc group zeros (wholeItems others))) (l .items-are)
+            (ap wholeItems (walk-cut (l .walk) d h) ∙ many .whole ∙ rw size (append-assoc group zeros (wholeItems others))) (l .items-are)
 
         ends-next : Filling (replicate m 0) (endsOf (cut sizes words)) (replicate (blocks - 1) 0 ++ ((getD sizes g d ∷ []) ++ endsOf others)) ends whole
         ends-next =
             filling-same (replicate (blocks - 1) 0 ++ ((getD sizes g d ∷ []) ++ endsOf others))
-            (ap endsOf (walk-cut (l .walk) d h) ∙ ends-large group others large ∙ rw size) (l .ends-are)
+            (ap endsOf (walk-cut (l .walk) d h) ∙ many .ends ∙ rw size) (l .ends-are)
 
         pub laying-part : 64 * whole + length group ≤ length items
         laying-part = omega (arith, filling-room group (zeros ++ wholeItems others) items-next i-room, filling-length (l .items-are))

@@ -1,7 +1,8 @@
 pub mod Columns
 pub mod Splits
+pub mod Three
 pub mod Laid
-pub mod Room
+pub mod Halves
 pub mod Blocks
 pub mod Agree
 pub mod Laying

@@ -3,9 +3,10 @@ use Prim.Native.Nat.{ℕ, zero, suc, _+_, _-_, _*_, _≤_, _/_}
 use mathlib.Core.Path.{_≡_}
 use mathlib.Core.Bool.{cond}
 use mathlib.Core.List.{List, [], _∷_}
-use lib.Dec.{eqb}
+use lib.Dec.{eqb, leb}
 use lib.ListN.{length}
 use Rattle.vectors.proofs.Choice.Squares.{tally}
+use Rattle.choice.specs.Layout.{pairedMost}
 
 -- of a members with 1 and the others with 0, each two of different value
 abbrev pub splits : ℕ → ℕ → ℕ
@@ -36,3 +37,8 @@ pairGain (suc d) t w = t w + pairGain d t (suc w)
 unfoldable pub mostOf : List ℕ → ℕ
 mostOf [] = 0
 mostOf (s ∷ ss) = s * s / 4 + mostOf ss
+
+-- and the small ones of these groups
+unfoldable pub smallMost : List (List ℕ) → ℕ
+smallMost [] = 0
+smallMost (g ∷ gs) = cond (leb (length g) pairedMost) (length g * length g / 4 + smallMost gs) (smallMost gs)

@@ -18,48 +18,64 @@ use Rattle.vectors.specs.Bounds.{maxInputs}
 abbrev pub maxGain : ℕ
 maxGain = 2 ^ 20
 
--- a column of 88 words for each input, and one of zeros before them
+-- a word for each input in each block
 abbrev pub columnsSize : ℕ
-columnsSize = (maxInputs + 1) * maxBlocks
+columnsSize = 64 * maxBlocks
 
--- the first r words of a block stand at place w of the columns after the first; the other words are as before
-pub record Scattered (block : List ℕ) (w : ℕ) (before after : List ℕ) (r : ℕ) : Type 0 where
-  pub size : length after ≡ length before
-  pub here : (i : ℕ) → i < r → getD after (maxBlocks * i + maxBlocks + w) 0 ≡ getD block i 0
-  pub kept : (x : ℕ) → ((i : ℕ) → i < r → x ≡ maxBlocks * i + maxBlocks + w → ⊥) → getD after x 0 ≡ getD before x 0
+-- the word of input i in block w; of input 0, zeros
+abbrev pub columnAt : List ℕ → ℕ → ℕ → ℕ
+columnAt columns zero w = 0
+columnAt columns (suc i) w = getD columns (64 * w + i) 0
 
 -- the columns of the first blocks of the items
 pub record Drawn (items columns : List ℕ) (blocks : ℕ) : Type 0 where
   pub size : length columns ≡ columnsSize
-  pub are : (i w : ℕ) → i ≤ maxInputs → w < blocks → getD columns (maxBlocks * i + w) 0 ≡ columnOf i (block w items)
+  pub are : (i w : ℕ) → i ≤ maxInputs → w < blocks → columnAt columns i w ≡ columnOf i (block w items)
 
--- the ones of block w in the XOR of the columns that begin at a and b
+-- the XOR of the columns of inputs i and j in block w
+abbrev pub crossAt : List ℕ → ℕ → ℕ → ℕ → ℕ
+crossAt columns i j w = bitXor (columnAt columns i w) (columnAt columns j w)
+
+-- its ones
 abbrev pub tallyAt : List ℕ → ℕ → ℕ → ℕ → ℕ
-tallyAt columns a b w = ones (bitXor (getD columns (a + w) 0) (getD columns (b + w) 0))
+tallyAt columns i j w = ones (crossAt columns i j w)
 
 -- the pairs told apart by the XOR of inputs i and j, by those columns
 unfoldable pub gainAt : List ℕ → List ℕ → ℕ → ℕ → ℕ → ℕ
 unfolding wholeGain pairGain
 gainAt columns ends blocks i j =
-    let t = tallyAt columns (maxBlocks * i) (maxBlocks * j) in
-    wholeGain ends t 0 0 + pairGain (blocks - length ends) t (length ends)
+    wholeGain ends (tallyAt columns i j) 0 0 + pairGain (blocks - length ends) (tallyAt columns i j) (length ends)
 
--- what judging inputs i and j needs
-pub record Sheet (columns ends : List ℕ) (blocks most i j : ℕ) : Type 0 where
+-- what counting the pairs of inputs i and j from a block on needs, with start counted before
+pub record Pairs (columns rests : List ℕ) (i j from start : ℕ) : Type 0 where
   pub size : length columns ≡ columnsSize
-  pub whole : length ends ≤ blocks
-  pub fit : blocks ≤ maxBlocks
   pub first-in : i ≤ maxInputs
   pub second-in : j ≤ maxInputs
-  pub counts : Counts ends (tallyAt columns (maxBlocks * i) (maxBlocks * j)) 0 0
-  pub low : gainAt columns ends blocks i j ≤ maxGain
+  pub second-some : 0 < j
+  pub fit : length rests ≤ maxBlocks
+  pub within : from ≤ length rests
+  pub high : (w : ℕ) → from ≤ w → w < length rests → pairGain (length rests - w) (tallyAt columns i j) w ≤ getD rests w 0
+  pub low : (w : ℕ) → from ≤ w → w < length rests → getD rests w 0 ≤ maxGain
+  pub sum-low : start + pairGain (length rests - from) (tallyAt columns i j) from ≤ maxGain
+
+-- what judging inputs i and j needs
+pub record Sheet (columns ends rests : List ℕ) (most i j : ℕ) : Type 0 where
+  pub size : length columns ≡ columnsSize
+  pub whole : length ends ≤ length rests
+  pub fit : length rests ≤ maxBlocks
+  pub first-in : i ≤ maxInputs
+  pub second-in : j ≤ maxInputs
+  pub second-some : 0 < j
+  pub counts : Counts ends (tallyAt columns i j) 0 0
+  pub low : gainAt columns ends (length rests) i j ≤ maxGain
   pub most-high : mostOf ends ≤ most
-  pub pairs-low : pairGain (blocks - length ends) (tallyAt columns (maxBlocks * i) (maxBlocks * j)) (length ends) ≤ most - mostOf ends
   pub most-low : most ≤ maxGain
+  pub rests-high : (w : ℕ) → length ends ≤ w → w < length rests → pairGain (length rests - w) (tallyAt columns i j) w ≤ getD rests w 0
+  pub rests-low : (w : ℕ) → length ends ≤ w → w < length rests → getD rests w 0 ≤ most - mostOf ends
 
 -- every candidate of n inputs can be judged
-abbrev pub Sheets : List ℕ → List ℕ → ℕ → ℕ → ℕ → Type 0
-Sheets columns ends blocks most n = (k : Kind) → faulty n k ≡ false → Sheet columns ends blocks most (first k) (second k)
+abbrev pub Sheets : List ℕ → List ℕ → List ℕ → ℕ → ℕ → Type 0
+Sheets columns ends rests most n = (k : Kind) → faulty n k ≡ false → Sheet columns ends rests most (first k) (second k)
 
 -- the less a candidate leaves, the more it tells apart
 abbrev pub leftBy : List ℕ → List ℕ → ℕ → Kind → ℕ

@@ -5,32 +5,25 @@ ghost use lib.ListN.{length};
 ghost use Rattle.vectors.specs.Choice.{bestOf, candidates};
 ghost use Rattle.choice.specs.Best.{Searched, scoreOf};
 ghost use Rattle.choice.specs.Layout.{maxBlocks};
-ghost use Rattle.choice.specs.Judged.{columnsSize};
 use crate::draw;
 use crate::judge;
 use crate::lay;
 use crate::search;
 use vectors::Kind;
 
-// The first of the candidates of n inputs that leave the fewest pairs of words, in groups of those sizes, that agree. Items and columns
-// are lent, since they are large: what they hold before and after does not matter.
-pub(crate) fn best(
-    words: &[u64],
-    sizes: &[u16],
-    n: u8,
-    degree: usize,
-    items: &mut [u64],
-    columns: &mut [u64],
-) -> Kind
+// The first of the candidates of n inputs that leave the fewest pairs of words, in groups of those sizes, that agree. The items are lent,
+// since they are large: what they hold before and after does not matter.
+pub(crate) fn best(words: &[u64], sizes: &[u16], n: u8, degree: usize, items: &mut [u64]) -> Kind
     requires { ⌜ Searched (now sizes) (now words) n ⌝ }
-    requires { ⌜ (length (now items) ≡ 64 * maxBlocks) × (length (now columns) ≡ columnsSize) ⌝ }
+    requires { ⌜ length (now items) ≡ 64 * maxBlocks ⌝ }
     ensures { λ r. ⌜ r ≡ bestOf (scoreOf (now (sizes .entry)) (now (words .entry))) (candidates n degree) ⌝ }
 {
+    let most = judge::most(sizes);
     let mut ends = [0u16; 88];
-    let laid = lay::lay(words, sizes, items, &mut ends);
+    let mut rests = [1u64; 88];
+    let laid = lay::lay(words, sizes, most, items, &mut ends, &mut rests);
     let whole = laid.whole;
     let blocks = (laid.items + 63) / 64;
-    draw::draw(items, blocks, columns);
-    let most = judge::most(sizes);
-    search::best_of(columns, &ends[..whole], blocks, most, n, degree)
+    draw::draw(items, blocks);
+    search::best_of(items, &ends[..whole], &rests[..blocks], most, n, degree)
 }

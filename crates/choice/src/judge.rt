@@ -1,18 +1,38 @@
 // How many pairs of members a candidate tells apart, from the columns of its inputs.
 ghost use mathlib.Core.Path.{_≡_};
-ghost use Prim.Native.Nat.{_+_, _-_, _≤_};
-ghost use lib.Bits.{bitXor};
+ghost use Prim.Native.Nat.{_+_, _-_, _≤_, _<_};
 ghost use lib.Count as count;
 ghost use lib.ListN.{length};
 ghost use Rattle.choice.specs.Layout.{maxBlocks};
 ghost use Rattle.choice.specs.Gain.{wholeGain, mostOf, pairGain, Counts};
-ghost use Rattle.choice.specs.Judged.{maxGain, tallyAt, gainAt, Sheet, WholeIs, Judges};
+ghost use Rattle.vectors.specs.Bounds.{maxInputs};
+ghost use Rattle.choice.specs.Judged.{maxGain, columnsSize, crossAt, tallyAt, gainAt, Pairs, Sheet, WholeIs, Judges};
 
-// The ones of a block in the XOR of two columns.
-fn ones(a: u64, b: u64) -> u64
-    ensures { λ r. ⌜ (r ≡ count.ones (bitXor a b)) × (r ≤ 64) ⌝ }
+// The XOR of the columns of inputs i and j in block w; input 0 is none.
+fn crossed(columns: &[u64], i: usize, j: usize, w: usize) -> u64
+    requires { ⌜ (i ≤ maxInputs) × (j ≤ maxInputs) × (w < maxBlocks) × (length (now columns) ≡ columnsSize) × (0 < j) ⌝ }
+    ensures { λ r. ⌜ r ≡ crossAt (now (columns .entry)) i j w ⌝ }
 {
-    u64::count_ones(a ^ b) as u64
+    let b = columns[64 * w + j - 1];
+    if i == 0 {
+        return b;
+    }
+    columns[64 * w + i - 1] ^ b
+}
+
+// The ones of a word.
+fn ones(x: u64) -> u64
+    ensures { λ r. ⌜ (r ≡ count.ones x) × (r ≤ 64) ⌝ }
+{
+    u64::count_ones(x) as u64
+}
+
+// The ones of three words, by two counts: places that an odd number of the words has, and places that two or three have.
+fn ones_of_three(x: u64, y: u64, z: u64) -> u64
+    ensures { λ r. ⌜ r ≡ count.ones x + count.ones y + count.ones z ⌝ }
+{
+    let xy = x ^ y;
+    ones(xy ^ z) + 2 * ones((x & y) | (xy & z))
 }
 
 // What the large groups tell apart; hopeless where that was given up, since the best so far cannot be passed any more.
@@ -38,18 +58,18 @@ pub(crate) fn most(sizes: &[u16]) -> u64
 
 // Of the large groups: a block's tally is added to its group's, and the group counts where it ends. Most is what all groups have at
 // most; given up where all that is left does not come above beat.
-fn whole(columns: &[u64], ends: &[u16], a: usize, b: usize, most: u64, beat: u64) -> Large
-    requires { ⌜ (a + maxBlocks ≤ length (now columns)) × (b + maxBlocks ≤ length (now columns)) × (length (now ends) ≤ maxBlocks) ⌝ }
-    requires { ⌜ Counts (now ends) (tallyAt (now columns) a b) 0 0 ⌝ }
-    requires { ⌜ (wholeGain (now ends) (tallyAt (now columns) a b) 0 0 ≤ maxGain) × (mostOf (now ends) ≤ most) × (most ≤ maxGain) ⌝ }
-    ensures { λ r. ⌜ WholeIs (wholeGain (now (ends .entry)) (tallyAt (now (columns .entry)) a b) 0 0) (most - mostOf (now (ends .entry))) beat r ⌝ }
+fn whole(columns: &[u64], ends: &[u16], i: usize, j: usize, most: u64, beat: u64) -> Large
+    requires { ⌜ (i ≤ maxInputs) × (j ≤ maxInputs) × (length (now ends) ≤ maxBlocks) × (length (now columns) ≡ columnsSize) × (0 < j) ⌝ }
+    requires { ⌜ Counts (now ends) (tallyAt (now columns) i j) 0 0 ⌝ }
+    requires { ⌜ (wholeGain (now ends) (tallyAt (now columns) i j) 0 0 ≤ maxGain) × (mostOf (now ends) ≤ most) × (most ≤ maxGain) ⌝ }
+    ensures { λ r. ⌜ WholeIs (wholeGain (now (ends .entry)) (tallyAt (now (columns .entry)) i j) 0 0) (most - mostOf (now (ends .entry))) beat r ⌝ }
 {
     let mut gain: u64 = 0;
     let mut counted: u64 = 0;
     let mut room = most;
     let mut w = 0;
     while w < ends.len() {
-        counted += ones(columns[a + w], columns[b + w]);
+        counted += ones(crossed(columns, i, j, w));
         let size = ends[w] as u64;
         w += 1;
         if size != 0 {
@@ -70,42 +90,84 @@ fn whole(columns: &[u64], ends: &[u16], a: usize, b: usize, most: u64, beat: u64
     }
 }
 
-// Of the small groups, whose pairs fill the blocks from one to another: a pair with value 1 is told apart. Start is what the large
-// groups have; given up where 64 a block do not come above beat.
-fn paired(columns: &[u64], a: usize, b: usize, from: usize, to: usize, start: u64, beat: u64) -> u64
-    requires { ⌜ (a + maxBlocks ≤ length (now columns)) × (b + maxBlocks ≤ length (now columns)) × (from ≤ to) × (to ≤ maxBlocks) × (start ≤ maxGain) ⌝ }
-    ensures { λ r. ⌜ Judges (start + pairGain (to - from) (tallyAt (now (columns .entry)) a b) from) beat r ⌝ }
+// Of the small groups, whose pairs fill the blocks from one on: a pair with value 1 is told apart. Start is what was counted before; given up
+// where what the blocks left have at most does not come above beat. Without that test the compiler would count by vectors, which is slower.
+fn paired_last(
+    columns: &[u64],
+    rests: &[u64],
+    i: usize,
+    j: usize,
+    from: usize,
+    start: u64,
+    beat: u64,
+) -> u64
+    requires { ⌜ Pairs (now columns) (now rests) i j from start ⌝ }
+    ensures { λ r. ⌜ Judges (start + pairGain (length (now (rests .entry)) - from) (tallyAt (now (columns .entry)) i j) from) beat r ⌝ }
 {
     let mut gain = start;
     let mut w = from;
-    while w < to {
-        if gain + 64 * (to - w) as u64 <= beat {
+    while w < rests.len() {
+        if gain + rests[w] <= beat {
             return gain;
         }
-        gain += ones(columns[a + w], columns[b + w]);
+        gain += ones(crossed(columns, i, j, w));
         w += 1;
     }
     gain
+}
+
+// The same, three blocks at a time for as long as three are left.
+fn paired(
+    columns: &[u64],
+    rests: &[u64],
+    i: usize,
+    j: usize,
+    from: usize,
+    start: u64,
+    beat: u64,
+) -> u64
+    requires { ⌜ Pairs (now columns) (now rests) i j from start ⌝ }
+    ensures { λ r. ⌜ Judges (start + pairGain (length (now (rests .entry)) - from) (tallyAt (now (columns .entry)) i j) from) beat r ⌝ }
+{
+    let mut gain = start;
+    let mut w = from;
+    while w + 2 < rests.len() {
+        if gain + rests[w] <= beat {
+            return gain;
+        }
+        let x = crossed(columns, i, j, w);
+        let y = crossed(columns, i, j, w + 1);
+        let z = crossed(columns, i, j, w + 2);
+        gain += ones_of_three(x, y, z);
+        w += 3;
+    }
+    paired_last(columns, rests, i, j, w, gain, beat)
 }
 
 // The pairs that the XOR of inputs i and j tells apart, input 0 being none; or some number up to beat, where they are not more.
 pub(crate) fn gain(
     columns: &[u64],
     ends: &[u16],
-    blocks: usize,
+    rests: &[u64],
     most: u64,
     i: u8,
     j: u8,
     beat: u64,
 ) -> u64
-    requires { ⌜ Sheet (now columns) (now ends) blocks most i j ⌝ }
-    ensures { λ r. ⌜ Judges (gainAt (now (columns .entry)) (now (ends .entry)) blocks i j) beat r ⌝ }
+    requires { ⌜ Sheet (now columns) (now ends) (now rests) most i j ⌝ }
+    ensures { λ r. ⌜ Judges (gainAt (now (columns .entry)) (now (ends .entry)) (length (now (rests .entry))) i j) beat r ⌝ }
 {
-    let a = 88 * i as usize;
-    let b = 88 * j as usize;
-    let large = whole(columns, ends, a, b, most, beat);
+    let large = whole(columns, ends, i as usize, j as usize, most, beat);
     if large.hopeless {
         return 0;
     }
-    paired(columns, a, b, ends.len(), blocks, large.gain, beat)
+    paired(
+        columns,
+        rests,
+        i as usize,
+        j as usize,
+        ends.len(),
+        large.gain,
+        beat,
+    )
 }

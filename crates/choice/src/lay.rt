@@ -7,7 +7,9 @@ ghost use lib.ListN.{length, take, replicate};
 ghost use lib.Seq.{sets};
 ghost use Rattle.lists.specs.Cut.{cut};
 ghost use Rattle.choice.specs.Layout.{pairsOf, wholeItems, maxBlocks};
+ghost use Rattle.choice.specs.Gain.{mostOf, smallMost};
 ghost use Rattle.choice.specs.Inner.{Grouped, WholeLaid, PairsLaid, LaidOut};
+use crate::judge;
 
 // How many blocks hold large groups, and how many items there are, with the 64 of each of these blocks.
 pub(crate) struct Laid {
@@ -93,12 +95,23 @@ fn lay_whole(words: &[u64], sizes: &[u16], items: &mut [u64], ends: &mut [u16]) 
     whole
 }
 
-// The pairs of the other groups, from place at on; the place after them.
-fn lay_pairs(words: &[u64], sizes: &[u16], items: &mut [u64], at: usize) -> usize
+// The pairs of the other groups, from place at on; the place after them. Small is what these groups have at most; a block gets what those of
+// them have that are not wholly before it.
+fn lay_pairs(
+    words: &[u64],
+    sizes: &[u16],
+    items: &mut [u64],
+    rests: &mut [u64],
+    at: usize,
+    small: u64,
+) -> usize
     requires { ⌜ Grouped (now sizes) (now words) ⌝ }
     requires { ⌜ (length (now items) ≡ 64 * maxBlocks) × (take at (now items) ≡ wholeItems (cut (now sizes) (now words))) × (at ≡ length (wholeItems (cut (now sizes) (now words)))) ⌝ }
-    ensures { λ r. ⌜ PairsLaid (cut (now (sizes .entry)) (now (words .entry))) (now (items .exit)) r ⌝ }
+    requires { ⌜ (length (now rests) ≡ maxBlocks) × (small ≡ smallMost (cut (now sizes) (now words))) ⌝ }
+    ensures { λ r. ⌜ PairsLaid (cut (now (sizes .entry)) (now (words .entry))) (now (items .exit)) (now (rests .exit)) r ⌝ }
 {
+    let mut left = small;
+    let mut b = at / 64;
     let mut w = at;
     let mut from = 0;
     let mut g = 0;
@@ -109,19 +122,35 @@ fn lay_pairs(words: &[u64], sizes: &[u16], items: &mut [u64], at: usize) -> usiz
         g += 1;
         if s <= 11 {
             w = pairs(&words[start..from], items, w);
+            let rest = left;
+            left -= (s * s / 4) as u64;
+            // A group has at most 55 pairs, so it reaches at most one new block.
+            if 64 * b < w {
+                rests[b] = rest;
+                b += 1;
+            }
         }
     }
     w
 }
 
-// The items of the groups: the large groups first, each from a new block on, then the pairs of the small ones.
-pub(crate) fn lay(words: &[u64], sizes: &[u16], items: &mut [u64], ends: &mut [u16]) -> Laid
-    requires { ⌜ Grouped (now sizes) (now words) ⌝ }
-    requires { ⌜ (length (now items) ≡ 64 * maxBlocks) × (now ends ≡ replicate maxBlocks 0) ⌝ }
-    ensures { λ r. ⌜ LaidOut (cut (now (sizes .entry)) (now (words .entry))) (now (items .exit)) (now (ends .exit)) r ⌝ }
+// The items of the groups: the large groups first, each from a new block on, then the pairs of the small ones. Most is what the groups have
+// at most.
+pub(crate) fn lay(
+    words: &[u64],
+    sizes: &[u16],
+    most: u64,
+    items: &mut [u64],
+    ends: &mut [u16],
+    rests: &mut [u64],
+) -> Laid
+    requires { ⌜ Grouped (now sizes) (now words) × (most ≡ mostOf (now sizes)) ⌝ }
+    requires { ⌜ (length (now items) ≡ 64 * maxBlocks) × (now ends ≡ replicate maxBlocks 0) × (length (now rests) ≡ maxBlocks) ⌝ }
+    ensures { λ r. ⌜ LaidOut (cut (now (sizes .entry)) (now (words .entry))) (now (items .exit)) (now (ends .exit)) (now (rests .exit)) r ⌝ }
 {
     let whole = lay_whole(words, sizes, items, ends);
-    let n = lay_pairs(words, sizes, items, 64 * whole);
+    let small = most - judge::most(&ends[..whole]);
+    let n = lay_pairs(words, sizes, items, rests, 64 * whole, small);
     zero(items, n, 64 * ((n + 63) / 64));
     Laid { whole, items: n }
 }

@@ -52,9 +52,8 @@ pub(crate) fn choose(vectors: &[u64], n: u8, degree: usize) -> Chosen
     ensures { λ r. ⌜ r ≡ chosenBy (now (vectors .entry)) n degree ⌝ }
 {
     let mut words = [0u64; 1024];
-    // What the large arrays start with does not matter; ones are stored without a call of memset.
+    // What the items start with does not matter; ones are stored without a call of memset.
     let mut items = [1u64; 5632];
-    let mut columns = [1u64; 5720];
     let mut variables = blank_variables();
     let mut groups = groups::all(vectors.len());
     let mut p: usize = 0;
@@ -71,14 +70,7 @@ pub(crate) fn choose(vectors: &[u64], n: u8, degree: usize) -> Chosen
         let m = groups.members;
         let q = groups.count;
         gather(vectors, &order[..m], &mut words);
-        let kind = best::best(
-            &words[..m],
-            &sizes[..q],
-            n,
-            degree,
-            &mut items,
-            &mut columns,
-        );
+        let kind = best::best(&words[..m], &sizes[..q], n, degree, &mut items);
         groups = groups::refined(vectors, vectors::mask(kind), groups);
         variables[p] = Variable {
             kind,

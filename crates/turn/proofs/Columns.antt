@@ -3,13 +3,15 @@ use Prim.Native.Nat.{ℕ, zero, suc, _+_, _*_, _/_, _%_, _^_, _<_}
 use native.Mathlib.Nat.{mod-lt, zero-lt-suc, zero-add, zero-div, div-one, pow-suc}
 use native.Mathlib.Omega.{arith}
 use mathlib.Core.Path.{_≡_, refl, sym, ap, _∙_, subst}
+use mathlib.Core.Bool.{Bool, cond}
 use mathlib.Core.List.{List, [], _∷_}
+use borrow.Author.Tests.{eq-eqb, ne-eqb}
 use lib.ListN.{length, getD}
 use lib.Seq.{ext-getD}
 use Rattle.vectors.specs.Bits.{bit}
 use Rattle.vectors.proofs.BitsLaws.{bit-suc, ext}
 use Rattle.turn.specs.Stage.{bitAt}
-use Rattle.turn.specs.Turn.{column, columnsFrom, turned}
+use Rattle.turn.specs.Turn.{column, columnsFrom, turned, turnedIn}
 
 pub column-lt : (i : ℕ) (xs : List ℕ) → column i xs < 2 ^ length xs
 unfolding column
@@ -46,13 +48,33 @@ columns-at (suc n) i xs (suc k) h =
     let e : suc i + k ≡ i + suc k = omega arith in
     columns-at n (suc i) xs k (omega arith) ∙ ap (λ (t : ℕ). column t xs) e
 
+-- ---- a block turned
+
+pub turned-length : (xs : List ℕ) → length (turned xs) ≡ 64
+unfolding turned
+turned-length xs = columns-length 64 0 xs
+
+pub turned-at : (i : ℕ) (xs : List ℕ) → i < 64 → getD (turned xs) i 0 ≡ column i xs
+unfolding turned
+turned-at i xs h = columns-at 64 0 xs i h ∙ ap (λ (t : ℕ). column t xs) (zero-add i)
+
 -- 64 words whose bits are those of xs turned
 pub turned-by : (xs ys : List ℕ) → length xs ≡ 64 → length ys ≡ 64 → ((r : ℕ) → r < 64 → getD ys r 0 < 2 ^ 64)
     → ((r c : ℕ) → r < 64 → c < 64 → bitAt ys r c ≡ bitAt xs c r) → ys ≡ turned xs
-unfolding turned
-turned-by xs ys m n b e = ext-getD 0 ys (columnsFrom 64 0 xs) (n ∙ sym (columns-length 64 0 xs)) (λ r h. row r (omega arith))
+turned-by xs ys m n b e = ext-getD 0 ys (turned xs) (n ∙ sym (turned-length xs)) (λ r h. row r (omega arith))
   where
-    row : (r : ℕ) → r < 64 → getD ys r 0 ≡ getD (columnsFrom 64 0 xs) r 0
+    row : (r : ℕ) → r < 64 → getD ys r 0 ≡ getD (turned xs) r 0
     row r h =
-        ext 64 (b r h) (subst (λ (t : ℕ). column r xs < 2 ^ t) m (column-lt r xs)) (λ c k. e r c h k ∙ sym (column-bit r xs c))
-        ∙ ap (λ (t : ℕ). column t xs) (sym (zero-add r)) ∙ sym (columns-at 64 0 xs r h)
+        ext 64 (b r h) (subst (λ (t : ℕ). column r xs < 2 ^ t) m (column-lt r xs)) (λ c k. e r c h k ∙ sym (column-bit r xs c)) ∙ sym (turned-at r xs h)
+
+-- ---- what a caller meets
+
+-- a block of 64 words is turned
+pub turned-in : (xs : List ℕ) → length xs ≡ 64 → turnedIn xs ≡ turned xs
+unfolding turnedIn
+turned-in xs e = ap (λ (b : Bool). cond b (turned xs) xs) (eq-eqb (length xs) 64 e)
+
+-- another is not
+pub turned-none : (xs : List ℕ) → (length xs ≡ 64 → ⊥) → turnedIn xs ≡ xs
+unfolding turnedIn
+turned-none xs e = ap (λ (b : Bool). cond b (turned xs) xs) (ne-eqb (length xs) 64 e)

@@ -2,7 +2,7 @@
 ghost use mathlib.Core.Path.{_≡_};
 ghost use Prim.Native.Nat.{_+_, _*_, _≤_, _<_};
 ghost use lib.ListN.{length};
-ghost use Rattle.turn.specs.Turn.{turned};
+ghost use Rattle.turn.specs.Turn.{turnedIn};
 ghost use Rattle.turn.specs.Stage.{Distance, Exchanged, swapped, swappedRows};
 
 // The rows low and low + j change places in the columns that the stage exchanges.
@@ -41,10 +41,13 @@ fn stage(block: &mut [u64], j: usize, mask: u64)
     }
 }
 
-// 64 words turned on their side: bit t of word i is bit i of what was word t.
-pub fn turn(block: &mut [u64; 64])
-    ensures { λ _. ⌜ now (block .exit) ≡ turned (now (block .entry)) ⌝ }
+// 64 words turned on their side: bit t of word i is bit i of what was word t. Another number of words stays as it is.
+pub fn turn(block: &mut [u64])
+    ensures { λ _. ⌜ now (block .exit) ≡ turnedIn (now (block .entry)) ⌝ }
 {
+    if block.len() != 64 {
+        return;
+    }
     stage(block, 32, 0x00000000ffffffff);
     stage(block, 16, 0x0000ffff0000ffff);
     stage(block, 8, 0x00ff00ff00ff00ff);

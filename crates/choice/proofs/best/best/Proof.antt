@@ -1,27 +1,39 @@
 -- `choice::best::best` meets its contract. Assumes nothing.
 use borrow.Author.Needs.{needs}
+use native.Mathlib.Omega.{arith}
 use mathlib.Core.Path.{_≡_, refl, sym, ap, _∙_}
 use lib.ListN.{length}
-use Rattle.choice.specs.Best.{Searched}
-use Rattle.choice.proofs.Answered.{halves-low, made-sheets, made-best}
+use Rattle.choice.proofs.Halves.{halves-low}
+use Rattle.choice.proofs.Answered.{rests-size, made-sheets, made-best}
 use Rattle.choice.proofs.best.best.Statement.{statement}
 use Rattle.choice.proofs.best.best.Tie as tie
 
--- the call's start, from where the groups are laid
-abbrev start : tie.After-lay → tie.Start
-start c = c .before .before .before .before .before .before .before
+-- the call's start; where the groups are laid, from where they are drawn
+abbrev start : tie.After-most → tie.Start
+start c = c .before .before .before .before
 
--- where the groups are laid, from where the columns are drawn
+abbrev counted : tie.After-lay → tie.After-most
+counted c = c .before .before .before .before
+
 abbrev laid : tie.After-draw → tie.After-lay
 laid c = c .before .before .before .before .before .before .before
+
+most-requires : tie.Need-most-requires
+most-requires c κs =
+    let s = c .before .before .before in
+    halves-low (s .args .sizes .now) (omega (arith, s .pre .0 .sum, s .pre .0 .few))
 
 slice-aggregate-lay : tie.Need-slice-aggregate-lay
 slice-aggregate-lay c = search needs
 
+slice-aggregate-lay-2 : tie.Need-slice-aggregate-lay-2
+slice-aggregate-lay-2 c = search needs
+
 lay-requires : tie.Need-lay-requires
 lay-requires c κs =
-    let s = c .before .before .before .before .before .before in
-    (record { sum = s .pre .0 .sum; few = s .pre .0 .few }, (s .pre .1 .0, refl))
+    let m = c .before .before .before in
+    let p = start m .pre in
+    ((record { sum = p .0 .sum; few = p .0 .few }, m .most .ensures), (p .1, refl, search needs))
 
 add-blocks : tie.Need-add-blocks
 add-blocks c = search needs
@@ -29,44 +41,48 @@ add-blocks c = search needs
 draw-requires : tie.Need-draw-requires
 draw-requires c κs = search needs
 
-most-requires : tie.Need-most-requires
-most-requires c κs = halves-low _ _ _ (start (laid (c .before .before)) .pre .0)
-
 array-share-prefix-ends : tie.Need-array-share-prefix-ends
 array-share-prefix-ends c = search needs
 
 slice-aggregate-best-of : tie.Need-slice-aggregate-best-of
-slice-aggregate-best-of c = let o = laid (c .before .before .before .before .before) .lay .ensures in o .whole-is ∙ sym (ap length (o .ends-are))
+slice-aggregate-best-of c = let o = laid (c .before .before .before .before) .lay .ensures in o .whole-is ∙ sym (ap length (o .ends-are))
+
+array-share-prefix-rests : tie.Need-array-share-prefix-rests
+array-share-prefix-rests c = search needs
+
+slice-aggregate-best-of-2 : tie.Need-slice-aggregate-best-of-2
+slice-aggregate-best-of-2 c = rests-size (laid (c .before .before .before .before .before) .lay .ensures)
 
 best-of-requires : tie.Need-best-of-requires
 best-of-requires c κs =
     let d = c .before .before .before .before .before in
-    let s = start (laid d) .pre .0 in
-    (s .some, s .inputs, rw (c .before .before .most .ensures) (made-sheets _ _ _ _ _ _ _ s (laid d .lay .ensures) (d .draw .ensures)))
+    let l = laid d in
+    let s = start (counted l) .pre .0 in
+    (s .some, s .inputs, rw (counted l .most .ensures) (made-sheets _ _ _ _ _ _ _ _ s (l .lay .ensures) (d .draw .ensures)))
 
 same-length : tie.Need-same-length
 same-length c = search needs
 
-same-length-2 : tie.Need-same-length-2
-same-length-2 c = search needs
-
 returns : tie.Need-returns
 returns c =
     let d = c .before .before .before .before .before .before in
-    c .best-of .ensures ∙ made-best _ _ _ _ _ _ _ (start (laid d) .pre .0) (laid d .lay .ensures) (d .draw .ensures) _
+    let l = laid d in
+    c .best-of .ensures ∙ made-best _ _ _ _ _ _ _ _ (start (counted l) .pre .0) (l .lay .ensures) (d .draw .ensures) _
 
 pub best-spec : {M : Type 1} → statement M
 best-spec =
     tie.close
     (tie.spec
+    most-requires
     slice-aggregate-lay
+    slice-aggregate-lay-2
     lay-requires
     add-blocks
     draw-requires
-    most-requires
     array-share-prefix-ends
     slice-aggregate-best-of
+    array-share-prefix-rests
+    slice-aggregate-best-of-2
     best-of-requires
     same-length
-    same-length-2
     returns)

@@ -3,18 +3,18 @@ use borrow.Author.Needs.{needs}
 use Prim.Native.Nat.{_+_, _-_, _*_, _≤_}
 use native.Mathlib.Omega.{arith}
 use mathlib.Core.Path.{_≡_, sym, _∙_}
-use Rattle.choice.proofs.Drawing.{Drawing, drawing-none, drawing-more, drawing-end}
+use Rattle.choice.proofs.Drawing.{Drawing, drawing-none, drawing-more}
 use Rattle.choice.proofs.draw.draw.Statement.{statement}
 use Rattle.choice.proofs.draw.draw.Tie as tie
 
 abbrev Inv-loop : tie.InvT-loop
-Inv-loop items blocks columns₀ w₀ columns w = (w ≤ blocks) × Drawing items columns w
+Inv-loop items₀ blocks w₀ items w = (w ≤ blocks) × Drawing items₀ items w
 
 abbrev μ-loop : tie.MeasureT-loop
-μ-loop items blocks columns₀ w₀ columns w = blocks - w
+μ-loop items₀ blocks w₀ items w = blocks - w
 
 loop-holds : tie.Need-loop-holds Inv-loop μ-loop
-loop-holds c = (omega arith, drawing-none _ _ (c .before .before .pre .2))
+loop-holds c = (omega arith, drawing-none _ (c .before .pre .0))
 
 mul-from : tie.Need-mul-from Inv-loop μ-loop
 mul-from c = search needs
@@ -22,20 +22,20 @@ mul-from c = search needs
 add-to : tie.Need-add-to Inv-loop μ-loop
 add-to c = search needs
 
-mul-draw-block : tie.Need-mul-draw-block Inv-loop μ-loop
-mul-draw-block c = search needs
+mul-turn : tie.Need-mul-turn Inv-loop μ-loop
+mul-turn c = search needs
 
-sub-draw-block : tie.Need-sub-draw-block Inv-loop μ-loop
-sub-draw-block c = search needs
+sub-turn : tie.Need-sub-turn Inv-loop μ-loop
+sub-turn c = search needs
 
-part-draw-block-start : tie.Need-part-draw-block-start Inv-loop μ-loop
-part-draw-block-start c = search needs
+part-turn-start : tie.Need-part-turn-start Inv-loop μ-loop
+part-turn-start c = search needs
 
-part-draw-block-end : tie.Need-part-draw-block-end Inv-loop μ-loop
-part-draw-block-end c = search needs
+part-turn-end : tie.Need-part-turn-end Inv-loop μ-loop
+part-turn-end c = omega (arith, c .before .loop .inv .1 .drawn .size, c .before .before .before .pre .1)
 
-draw-block-requires : tie.Need-draw-block-requires Inv-loop μ-loop
-draw-block-requires c κs = search needs
+turn-requires : tie.Need-turn-requires Inv-loop μ-loop
+turn-requires c κs = search needs
 
 add-w : tie.Need-add-w Inv-loop μ-loop
 add-w c = search needs
@@ -45,19 +45,19 @@ loop-less c = search needs
 
 loop-again : tie.Need-loop-again Inv-loop μ-loop
 loop-again c =
-    let l = c .before .before .before .before .before .before .loop in
+    let l = c .before .before .before .before .before .loop in
+    let p = c .before .before .before .before .before .before .before .pre in
     let d : 64 * l .w + 64 - 64 * l .w ≡ 64 = omega arith in
-    (omega arith, drawing-more _ _ _ (l .w) (omega (arith, c .before .before .before .before .before .before .before .before .before .pre .1)) (rw d at (c .before .before .draw-block .ensures)) (l .inv .1))
+    (omega arith, rw d (drawing-more _ (l .items) _ (l .w) (omega (arith, p .1)) (rw d at (c .before .before .turn .ensures)) (l .inv .1)))
 
 same-length : tie.Need-same-length Inv-loop μ-loop
-same-length c = c .before .loop .inv .1 .size ∙ sym (c .before .before .before .before .pre .2)
+same-length c = c .before .loop .inv .1 .drawn .size ∙ sym (c .before .before .before .pre .0)
 
 returns : tie.Need-returns Inv-loop μ-loop
 returns c =
     let l = c .before .loop in
-    let p = c .before .before .before .before .pre in
-    let e : l .w ≡ c .before .before .before .before .args .blocks = omega arith in
-    drawing-end _ _ _ (p .1) (rw e at (l .inv .1))
+    let e : l .w ≡ c .before .before .before .args .blocks = omega arith in
+    rw e at (l .inv .1 .drawn)
 
 pub draw-spec : {M : Type 1} → statement M
 draw-spec =
@@ -68,11 +68,11 @@ draw-spec =
     loop-holds
     mul-from
     add-to
-    mul-draw-block
-    sub-draw-block
-    part-draw-block-start
-    part-draw-block-end
-    draw-block-requires
+    mul-turn
+    sub-turn
+    part-turn-start
+    part-turn-end
+    turn-requires
     add-w
     loop-less
     loop-again

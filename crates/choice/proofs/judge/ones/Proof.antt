@@ -1,16 +1,15 @@
 -- `choice::judge::ones` meets its contract. Assumes nothing.
 use native.Mathlib.Omega.{arith}
 use mathlib.Core.Path.{refl}
-use lib.Bits.{bitXor, xor-lt}
 use lib.Count.{ones-le}
 use Rattle.choice.proofs.judge.ones.Statement.{statement}
 use Rattle.choice.proofs.judge.ones.Tie as tie
 
 cast-result : tie.Need-cast-result
-cast-result c = omega (arith, ones-le 64 (bitXor (c .args .a) (c .args .b)) (xor-lt 64 (c .args .a) (c .args .b) (c .fits .a .fits) (c .fits .b .fits)))
+cast-result c = omega (arith, ones-le 64 (c .args .x) (c .fits .x .fits))
 
 returns : tie.Need-returns
-returns c = (refl, ones-le 64 (bitXor (c .args .a) (c .args .b)) (xor-lt 64 (c .args .a) (c .args .b) (c .fits .a .fits) (c .fits .b .fits)))
+returns c = (refl, ones-le 64 (c .args .x) (c .fits .x .fits))
 
 pub ones-spec : {M : Type 1} → statement M
 ones-spec = tie.close (tie.spec cast-result returns)

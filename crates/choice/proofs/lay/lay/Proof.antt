@@ -1,31 +1,75 @@
 -- `choice::lay::lay` meets its contract. Assumes nothing.
 use borrow.Author.Needs.{needs}
-use Prim.Native.Nat.{_*_}
+use Prim.Native.Nat.{ℕ, _+_, _*_, _≤_}
 use native.Mathlib.Omega.{arith}
-use mathlib.Core.Path.{sym, ap, _∙_}
-use Rattle.choice.proofs.Laying.{whole-length, laid-out}
+use mathlib.Core.Path.{_≡_, sym, ap, _∙_}
+use mathlib.Core.List.{List}
+use lib.ListN.{length, take, length-take}
+use Rattle.lists.specs.Cut.{cut}
+use Rattle.choice.specs.Layout.{endsOf}
+use Rattle.choice.specs.Gain.{mostOf, smallMost}
+use Rattle.choice.specs.Judged.{maxGain}
+use Rattle.choice.proofs.Halves.{halves, halves-low}
+use Rattle.choice.proofs.Laid.{whole-length}
+use Rattle.choice.proofs.Laying.{laid-out}
 use Rattle.choice.proofs.lay.lay.Statement.{statement}
 use Rattle.choice.proofs.lay.lay.Tie as tie
 
+-- the halves of the large groups and of the small ones
+parts : (c : tie.After-lay-whole)
+    → let a = c .before .before .before .before .before .before .before .before .args in
+    mostOf (endsOf (cut (a .sizes .now) (a .words .now))) + smallMost (cut (a .sizes .now) (a .words .now)) ≡ a .most
+parts c = let p = c .before .before .before .before .before .before .before .before .pre .0 in halves _ _ (p .0 .sum) ∙ sym (p .1)
+
+low : (c : tie.After-lay-whole) → c .before .before .before .before .before .before .before .before .args .most ≤ maxGain
+low c =
+    let s = c .before .before .before .before .before .before .before .before in
+    let p = s .pre .0 in
+    omega (arith, p .1, halves-low (s .args .sizes .now) (omega (arith, p .0 .sum, p .0 .few)))
+
 lay-whole-requires : tie.Need-lay-whole-requires
 lay-whole-requires c κs = search needs
+
+-- what a list begins with is no longer than it
+prefix : (r : ℕ) (l m : List ℕ) → take r l ≡ m → r ≡ length m → r ≤ length l
+prefix r l m e q = omega (arith, ap length e, length-take r l)
+
+slice-reshare-prefix-most : tie.Need-slice-reshare-prefix-most
+slice-reshare-prefix-most c = let w = c .before .before .before .before .lay-whole .ensures in prefix _ _ _ (w .ends-are) (w .whole-is)
+
+slice-aggregate-most : tie.Need-slice-aggregate-most
+slice-aggregate-most c = let w = c .before .before .before .before .before .lay-whole .ensures in w .whole-is ∙ sym (ap length (w .ends-are))
+
+most-requires : tie.Need-most-requires
+most-requires c κs =
+    let w = c .before .before .before .before .before in
+    omega (arith, ap mostOf (w .lay-whole .ensures .ends-are), parts w, low w)
+
+sub-small : tie.Need-sub-small
+sub-small c =
+    let w = c .before .before .before .before .before .before in
+    omega (arith, c .most .ensures, ap mostOf (w .lay-whole .ensures .ends-are), parts w)
 
 mul-lay-pairs : tie.Need-mul-lay-pairs
 mul-lay-pairs c = search needs
 
 lay-pairs-requires : tie.Need-lay-pairs-requires
 lay-pairs-requires c κs =
-    let w = c .before .before .before .before .before .lay-whole .ensures in
-    (search needs, (w .size, w .items-are, ap (λ k. 64 * k) (w .whole-is) ∙ sym (whole-length _)))
+    let l = c .before .before .before .before .before .before .before .before in
+    let w = l .lay-whole .ensures in
+    let p = l .before .before .before .before .before .before .before .before .pre in (
+      p .0 .0,
+      ((w .size, w .items-are, ap (λ k. 64 * k) (w .whole-is) ∙ sym (whole-length _)), (p .1 .2, omega (arith, c .before .before .most .ensures, ap mostOf (w .ends-are), parts l))),
+    )
 
 add-zero : tie.Need-add-zero
-add-zero c = omega (arith, c .before .before .before .lay-pairs .ensures .few)
+add-zero c = search needs
 
 mul-zero : tie.Need-mul-zero
-mul-zero c = omega (arith, c .before .before .before .lay-pairs .ensures .few)
+mul-zero c = search needs
 
 zero-requires : tie.Need-zero-requires
-zero-requires c κs = let p = c .before .before .before .lay-pairs .ensures in (omega arith, omega (arith, p .size, p .few))
+zero-requires c κs = search needs
 
 same-length : tie.Need-same-length
 same-length c = search needs
@@ -33,14 +77,23 @@ same-length c = search needs
 same-length-2 : tie.Need-same-length-2
 same-length-2 c = search needs
 
+same-length-3 : tie.Need-same-length-3
+same-length-3 c = search needs
+
 returns : tie.Need-returns
-returns c = laid-out _ (c .before .before .before .before .before .before .before .before .before .before .before .before .lay-whole .ensures) (c .before .before .before .before .before .before .lay-pairs .ensures) (c .before .before .zero .ensures)
+returns c =
+    let p = c .before .before .before .before .before .before .before .before in
+    laid-out _ (p .before .before .before .before .before .before .before .before .before .lay-whole .ensures) (p .lay-pairs .ensures) (c .before .before .zero .ensures)
 
 pub lay-spec : {M : Type 1} → statement M
 lay-spec =
     tie.close
     (tie.spec
     lay-whole-requires
+    slice-reshare-prefix-most
+    slice-aggregate-most
+    most-requires
+    sub-small
     mul-lay-pairs
     lay-pairs-requires
     add-zero
@@ -48,4 +101,5 @@ lay-spec =
     zero-requires
     same-length
     same-length-2
+    same-length-3
     returns)

@@ -10,17 +10,16 @@ use Rattle.vectors.specs.Bounds.{maxVariables, maxVectors}
 use Rattle.choice.specs.Best.{Searched}
 use Rattle.choice.specs.Groups.{sizesOf}
 use Rattle.choice.specs.Layout.{maxBlocks}
-use Rattle.choice.specs.Judged.{columnsSize}
 use Rattle.choice.proofs.ChoiceStage.{Stage, stage-none, stage-more, stage-stop, stage-end}
 use Rattle.choice.proofs.rule.choose.Statement.{statement}
 use Rattle.choice.proofs.rule.choose.Tie as tie
 
 abbrev Inv-loop : tie.InvT-loop
-Inv-loop vectors n degree words₀ items₀ columns₀ variables₀ groups₀ p₀ words items columns variables groups p =
-    (length words ≡ 1024) × (length items ≡ 64 * maxBlocks) × (length columns ≡ columnsSize) × Stage vectors (candidates n degree) groups variables p
+Inv-loop vectors n degree words₀ items₀ variables₀ groups₀ p₀ words items variables groups p =
+    (length words ≡ 1024) × (length items ≡ 64 * maxBlocks) × Stage vectors (candidates n degree) groups variables p
 
 abbrev μ-loop : tie.MeasureT-loop
-μ-loop vectors n degree words₀ items₀ columns₀ variables₀ groups₀ p₀ words items columns variables groups p = maxVariables - p
+μ-loop vectors n degree words₀ items₀ variables₀ groups₀ p₀ words items variables groups p = maxVariables - p
 
 -- the call's start, and the turn's, from where the words are gathered
 abbrev start : tie.At-loop Inv-loop μ-loop → tie.Start Inv-loop μ-loop
@@ -31,7 +30,7 @@ turn c = c .before .before .before .before .before .before .before .before
 
 low : (l : tie.At-loop Inv-loop μ-loop) → l .loop .groups .members ≤ maxVectors
 low l =
-    let s = l .loop .inv .3 .shape in
+    let s = l .loop .inv .2 .shape in
     omega (arith, length-take-le _ (l .loop .groups .order) (s .room), s .cuts .few, start l .pre .2)
 
 room : (c : tie.After-gather Inv-loop μ-loop) → turn c .loop .groups .members ≤ length (c .gather .last .1 .1 .0)
@@ -43,7 +42,7 @@ searched : (c : tie.After-gather Inv-loop μ-loop)
     Searched (sizesOf (l .loop .groups)) (take (l .loop .groups .members) (c .gather .last .1 .1 .0)) (start l .args .n)
 searched c =
     let l = turn c in
-    let s = l .loop .inv .3 .shape in
+    let s = l .loop .inv .2 .shape in
     let p = start l .pre in
     let e = length-take-le (l .loop .groups .members) (c .gather .last .1 .1 .0) (room c) in
     record { some = p .0; inputs = p .1; few = omega (arith, low l, e); sum = s .cuts .sum ∙ length-take-le _ (l .loop .groups .order) (s .room) ∙ sym e }
@@ -55,16 +54,16 @@ all-requires : tie.Need-all-requires Inv-loop μ-loop
 all-requires c κs = c .before .before .pre .2
 
 loop-holds : tie.Need-loop-holds Inv-loop μ-loop
-loop-holds c = (refl, refl, refl, stage-none _ _ _ _ (c .before .«blank-variables» .ensures) (c .all .ensures))
+loop-holds c = (refl, refl, stage-none _ _ _ _ (c .before .«blank-variables» .ensures) (c .all .ensures))
 
 returns : tie.Need-returns Inv-loop μ-loop
-returns c = stage-stop _ _ (c .before .before .before .loop .inv .3) (c .if1 .taken)
+returns c = stage-stop _ _ (c .before .before .before .loop .inv .2) (c .if1 .taken)
 
 array-share-prefix-order : tie.Need-array-share-prefix-order Inv-loop μ-loop
 array-share-prefix-order c = search needs
 
 slice-aggregate-gather : tie.Need-slice-aggregate-gather Inv-loop μ-loop
-slice-aggregate-gather c = sym (length-take-le _ _ (c .before .before .before .before .before .before .loop .inv .3 .shape .room))
+slice-aggregate-gather c = sym (length-take-le _ _ (c .before .before .before .before .before .before .loop .inv .2 .shape .room))
 
 slice-aggregate-gather-2 : tie.Need-slice-aggregate-gather-2 Inv-loop μ-loop
 slice-aggregate-gather-2 c = search needs
@@ -72,7 +71,7 @@ slice-aggregate-gather-2 c = search needs
 gather-requires : tie.Need-gather-requires Inv-loop μ-loop
 gather-requires c κs =
     let l = c .before .before .before .before .before .before .before in
-    (l .loop .inv .3 .shape .cuts .low, omega (arith, low l, l .loop .inv .0, length-take-le _ (l .loop .groups .order) (l .loop .inv .3 .shape .room)))
+    (l .loop .inv .2 .shape .cuts .low, omega (arith, low l, l .loop .inv .0, length-take-le _ (l .loop .groups .order) (l .loop .inv .2 .shape .room)))
 
 array-share-prefix-words : tie.Need-array-share-prefix-words Inv-loop μ-loop
 array-share-prefix-words c = room (c .before)
@@ -84,26 +83,23 @@ array-share-prefix-sizes : tie.Need-array-share-prefix-sizes Inv-loop μ-loop
 array-share-prefix-sizes c = search needs
 
 slice-aggregate-best-2 : tie.Need-slice-aggregate-best-2 Inv-loop μ-loop
-slice-aggregate-best-2 c = sym (length-take-le _ _ (turn (c .before .before .before) .loop .inv .3 .shape .places))
+slice-aggregate-best-2 c = sym (length-take-le _ _ (turn (c .before .before .before) .loop .inv .2 .shape .places))
 
 slice-aggregate-best-3 : tie.Need-slice-aggregate-best-3 Inv-loop μ-loop
 slice-aggregate-best-3 c = search needs
 
-slice-aggregate-best-4 : tie.Need-slice-aggregate-best-4 Inv-loop μ-loop
-slice-aggregate-best-4 c = search needs
-
 best-requires : tie.Need-best-requires Inv-loop μ-loop
 best-requires c κs =
-    let g = c .before .before .before .before .before in
-    (searched g, (turn g .loop .inv .1, turn g .loop .inv .2))
+    let g = c .before .before .before .before in
+    (searched g, turn g .loop .inv .1)
 
 mask-requires : tie.Need-mask-requires Inv-loop μ-loop
 mask-requires c κs = search needs
 
 refined-requires : tie.Need-refined-requires Inv-loop μ-loop
 refined-requires c κs =
-    let l = turn (c .before .before .before .before .before .before .before .before .before) in
-    (start l .pre .2, l .loop .inv .3 .shape)
+    let l = turn (c .before .before .before .before .before .before .before) in
+    (start l .pre .2, l .loop .inv .2 .shape)
 
 mul-variables : tie.Need-mul-variables Inv-loop μ-loop
 mul-variables c = search needs
@@ -119,20 +115,19 @@ loop-less c = search needs
 
 loop-again : tie.Need-loop-again Inv-loop μ-loop
 loop-again c =
-    let b = c .before .before .before .before in
-    let g = b .before .before .before .before .before .before in
+    let b = c .before .before .before in
+    let g = b .before .before .before .before .before in
     let t = g .before .before .before .before .before .before .before in
     let l = t .before in
-    let o = length-take-le _ (l .loop .groups .order) (l .loop .inv .3 .shape .room) in (
+    let o = length-take-le _ (l .loop .groups .order) (l .loop .inv .2 .shape .room) in (
       g .gather .kept .1 .1 .0 ∙ l .loop .inv .0,
       b .best .kept .1 .1 .1 .1 .0 ∙ l .loop .inv .1,
-      b .best .kept .1 .1 .1 .1 .1 .0 ∙ l .loop .inv .2,
-      stage-more (l .loop .inv .3) _ (b .best .result) _ _ (t .loop-test .taken) (g .before .before .before .before .before .if1 .left)
+      stage-more (l .loop .inv .2) _ (b .best .result) _ _ (t .loop-test .taken) (g .before .before .before .before .before .if1 .left)
           (λ i. omega (arith, l .before .before .before .shared-slice-known .given i)) (rw o at (g .gather .ensures)) (b .best .ensures) (c .before .mask .ensures) (c .refined .ensures),
     )
 
 returns-2 : tie.Need-returns-2 Inv-loop μ-loop
-returns-2 c = stage-end _ _ (c .before .before .loop .inv .3) (c .before .loop-test .left)
+returns-2 c = stage-end _ _ (c .before .before .loop .inv .2) (c .before .loop-test .left)
 
 pub choose-spec : {M : Type 1} → statement M
 choose-spec =
@@ -153,7 +148,6 @@ choose-spec =
     array-share-prefix-sizes
     slice-aggregate-best-2
     slice-aggregate-best-3
-    slice-aggregate-best-4
     best-requires
     mask-requires
     refined-requires

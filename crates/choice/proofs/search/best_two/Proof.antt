@@ -3,6 +3,7 @@ use borrow.Author.Needs.{needs}
 use Prim.Native.Nat.{ℕ, _+_, _-_, _≤_, _<_}
 use native.Mathlib.Omega.{arith}
 use mathlib.Core.Path.{_≡_, ap}
+use lib.ListN.{length}
 use Rattle.vectors.specs.Choice.{fewest, twos}
 use Rattle.vectors.proofs.Choice.Loops.{twos-turn, twos-end}
 use Rattle.choice.specs.Judged.{leftBy}
@@ -11,19 +12,19 @@ use Rattle.choice.proofs.search.best_two.Statement.{statement}
 use Rattle.choice.proofs.search.best_two.Tie as tie
 
 abbrev Inv-loop : tie.InvT-loop
-Inv-loop columns ends blocks most n b₀ i₀ b i = (0 < i) × (i ≤ n + 1) × Trying (leftBy columns ends blocks) (fewest (leftBy columns ends blocks) (b₀ .kind) (twos n 1)) b (twos (n + 1 - i) i)
+Inv-loop columns ends rests most n b₀ i₀ b i = (0 < i) × (i ≤ n + 1) × Trying (leftBy columns ends (length rests)) (fewest (leftBy columns ends (length rests)) (b₀ .kind) (twos n 1)) b (twos (n + 1 - i) i)
 
 abbrev μ-loop : tie.MeasureT-loop
-μ-loop columns ends blocks most n b₀ i₀ b i = n + 1 - i
+μ-loop columns ends rests most n b₀ i₀ b i = n + 1 - i
 
 loop-holds : tie.Need-loop-holds Inv-loop μ-loop
 loop-holds c =
-    let e : c .before .before .args .n + 1 - 1 ≡ c .before .before .args .n = omega arith in
-    (omega arith, omega arith, trying-none _ _ _ _ (ap (λ (d : ℕ). twos d 1) e) (c .before .before .pre .2))
+    let e : c .before .before .before .args .n + 1 - 1 ≡ c .before .before .before .args .n = omega arith in
+    (omega arith, omega arith, trying-none _ _ _ _ (ap (λ (d : ℕ). twos d 1) e) (c .before .before .before .pre .2))
 
 best-two-at-requires : tie.Need-best-two-at-requires Inv-loop μ-loop
 best-two-at-requires c κs =
-    let p = c .before .before .before .before .pre in
+    let p = c .before .before .before .before .before .pre in
     (p .0, c .before .loop .inv .0, c .loop-test .taken, p .1, c .before .loop .inv .2 .own)
 
 add-i : tie.Need-add-i Inv-loop μ-loop
