@@ -25,18 +25,18 @@ pub(crate) fn pack(mask: u64, x: u64) -> u64
     let mut k: u64 = 0;
     let mut m = mask;
     while m != 0 {
-        let z = u64::trailing_zeros(m) as u64;
-        let y = x >> z;
+        // How far the run moves down.
+        let gap = u64::trailing_zeros(m) as u64 - k;
         let below = m | (m - 1);
         // The run reaches the top of the word.
         if below == 0xffffffffffffffff {
-            return w + (y << k);
+            return w + ((x & m) >> gap);
         }
         let above = below + 1;
-        let n = u64::trailing_zeros(above) as u64 - z;
-        w = w + (low(y, n) << k);
-        k = k + n;
-        m = m & above;
+        let rest = m & above;
+        w = w + ((x & (m - rest)) >> gap);
+        k = u64::trailing_zeros(above) as u64 - gap;
+        m = rest;
     }
     w
 }

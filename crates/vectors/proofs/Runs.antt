@@ -1,11 +1,11 @@
 -- A mask taken run by run from its low end, each run cleared where it stands; w is the width of the word. Assumes nothing.
 use Prim.Native.Nat.{ℕ, zero, suc, _+_, _-_, _*_, _/_, _%_, _^_, min, max, _≤_, _<_, zero-le, suc-le-suc}
-use native.Mathlib.Nat.{mod-lt, mod-one, zero-lt-suc, pow-suc, lt-of-lt-of-le, lt-of-le-of-lt, le-trans, div-one, one-mul, zero-add, mul-assoc, mul-comm, mul-add, mul-zero, add-zero, sub-zero}
+use native.Mathlib.Nat.{mod-one, zero-lt-suc, pow-suc, le-trans, div-one, one-mul, zero-add, mul-assoc, mul-comm, mul-add, mul-zero, add-zero, sub-zero}
 use native.Mathlib.Numerals.{add-one}
 use native.Mathlib.Omega.{arith}
-use mathlib.Core.Path.{_≡_, refl, sym, ap, ap₂, _∙_, subst}
-use lib.Bits.{bitAnd, bitOr, and-step, or-step, and-self, or-self, and-comm, and-shifted, and-le-l}
-use lib.Pow.{pow-add, pow-pos, shr-lt, shl-exact, mod-pow-add, shr-mod}
+use mathlib.Core.Path.{_≡_, refl, sym, ap, ap₂, _∙_}
+use lib.Bits.{bitAnd, bitOr, and-step, or-step, and-self, or-self, and-comm, and-shifted, and-high}
+use lib.Pow.{pow-add, pow-lt, shl-shr, mod-pow-add}
 use lib.Count.{trailingZeros, trailing-le}
 use Rattle.vectors.specs.Word.{packBit, packIn}
 use Rattle.vectors.proofs.BitsLaws.{digit, half-lt, shr-suc}
@@ -78,10 +78,11 @@ pack-twice d m x = ap (λ (n : ℕ). packIn (suc d) n x) (mul-comm m 2) ∙ pack
 -- ---- t ones at the low end, and r without them
 
 record Run (d m t r : ℕ) : Type 0 where
+  whole : m + 1 ≡ r + 2 ^ t
   taken : (x : ℕ) → packIn d m x ≡ x % 2 ^ t + 2 ^ t * packIn d r x
 
 run-none : (d m : ℕ) → Run d m 0 m
-run-none d m = record { taken = λ x. sym (ap (λ (a : ℕ). a + 1 * packIn d m x) (mod-one x) ∙ zero-add _ ∙ one-mul _) }
+run-none d m = record { whole = refl; taken = λ x. sym (ap (λ (a : ℕ). a + 1 * packIn d m x) (mod-one x) ∙ zero-add _ ∙ one-mul _) }
 
 -- the two digits of a sum of runs
 regroup : (a b c p : ℕ) → a + 2 * (b + p * c) ≡ (b * 2 + a) + (p * 2) * c
@@ -91,6 +92,7 @@ run-one : (d m t r : ℕ) → m % 2 ≡ 1 → Run d (m / 2) t r → Run (suc d) 
 unfolding packIn
 run-one d m t r z s =
     record {
+      whole = omega (arith, s .whole, pow-suc 2 t);
       taken = λ x.
           ap (λ (n : ℕ). packBit n (x % 2) (packIn d (m / 2) (x / 2))) z
           ∙ ap (λ (n : ℕ). x % 2 + 2 * n) (s .taken (x / 2))
@@ -99,31 +101,33 @@ run-one d m t r z s =
           (ap₂ (λ (a b : ℕ). a * b) (sym (pow-suc 2 t)) (sym (pack-twice d r x)));
     }
 
-run : (d m : ℕ) → Run d m (zerosOf d (m + 1)) (bitAnd m (m + 1))
+run : (d m : ℕ) → m < 2 ^ d → Run d m (zerosOf d (m + 1)) (bitAnd m (m + 1))
 unfolding trailingZeros packIn
-run zero m = record { taken = λ x. sym (add-zero (x % 1) ∙ mod-one x) }
-run (suc d) m =
+run zero m h =
+    let e : m ≡ 0 = omega arith in
+    rw e (record { whole = refl; taken = λ x. sym (add-zero (x % 1) ∙ mod-one x) })
+run (suc d) m h =
     digit (λ r. m % 2 ≡ r → Run (suc d) m (zerosOf (suc d) (m + 1)) (bitAnd m (m + 1)))
     (λ e.
     let o : (m + 1) % 2 ≡ 1 = omega arith in
     rw (zeros-odd d (m + 1) o, and-next m e) (run-none (suc d) m))
     (λ e.
-    let h : m + 1 ≡ (m / 2 + 1) * 2 = omega arith in
-    rw (h, zeros-twice d (m / 2 + 1), and-twice m (m / 2 + 1)) (run-one d m _ _ e (run d (m / 2))))
+    let q : m + 1 ≡ (m / 2 + 1) * 2 = omega arith in
+    rw (q, zeros-twice d (m / 2 + 1), and-twice m (m / 2 + 1)) (run-one d m _ _ e (run d (m / 2) (half-lt d h))))
     m refl
 
 -- ---- the lowest run of a mask: from z up to t, and r without it
 
 record Lowest (d m z t r : ℕ) : Type 0 where
   some : z < t
-  less : r < m
+  whole : m + 2 ^ z ≡ r + 2 ^ t
   taken : (x : ℕ) → packIn d m x ≡ x / 2 ^ z % 2 ^ (t - z) + 2 ^ (t - z) * packIn d r x
 
-lowest-here : (d m t r : ℕ) → m % 2 ≡ 1 → r ≤ m / 2 → Run d m (suc t) (r * 2) → Lowest d m 0 (suc t) (r * 2)
-lowest-here d m t r o h s =
+lowest-here : (d m t r : ℕ) → Run d m (suc t) r → Lowest d m 0 (suc t) r
+lowest-here d m t r s =
     record {
       some = zero-lt-suc t;
-      less = omega arith;
+      whole = s .whole;
       taken = λ x. rw (sub-zero (suc t), div-one x) (s .taken x);
     }
 
@@ -133,7 +137,7 @@ lowest-up d m z t r e s =
     let n : t - z ≡ suc t - suc z = omega arith in
     record {
       some = suc-le-suc (s .some);
-      less = omega (arith, s .less);
+      whole = omega (arith, s .whole, pow-suc 2 z, pow-suc 2 t);
       taken = λ x.
           ap (λ (a : ℕ). packBit a (x % 2) (packIn d (m / 2) (x / 2))) e ∙ s .taken (x / 2)
           ∙ ap₂ (λ (a b : ℕ). a % 2 ^ (t - z) + 2 ^ (t - z) * b) (shr-suc x z) (sym (pack-twice d r x))
@@ -156,14 +160,8 @@ lowest (suc d) m p h =
     (λ e.
     let q : m + 1 ≡ (m / 2 + 1) * 2 = omega arith in
     rw (zeros-odd d m e, above-odd m e, q, zeros-twice d (m / 2 + 1), and-twice m (m / 2 + 1))
-    (lowest-here (suc d) m _ _ e (and-le-l (m / 2) (m / 2 + 1)) (run-one d m _ _ e (run d (m / 2)))))
+    (lowest-here (suc d) m _ _ (run-one d m _ _ e (run d (m / 2) (half-lt d h)))))
     m refl
-
-pub zeros-above : (w m : ℕ) → 0 < m → m < 2 ^ w → zerosOf w m < zerosOf w (above m)
-zeros-above w m p h = lowest w m p h .some
-
-pub zeros-lt : (w m : ℕ) → 0 < m → m < 2 ^ w → zerosOf w m < w
-zeros-lt w m p h = lt-of-lt-of-le (zeros-above w m p h) (trailing-le w (above m))
 
 -- what is picked of a number has its zeros
 zeros-and : (d m n : ℕ) → zerosOf d n ≤ zerosOf d (bitAnd m n)
@@ -177,57 +175,60 @@ zeros-and (suc d) m n =
     (λ e. rw (zeros-odd d n e) zero-le)
     n refl
 
-zeros-pow : (w : ℕ) → zerosOf w (2 ^ w) ≡ w
-unfolding trailingZeros
-zeros-pow zero = refl
-zeros-pow (suc w) = rw (pow-suc 2 w, zeros-twice w (2 ^ w)) (ap suc (zeros-pow w))
+-- ---- a turn of the loop: k bits taken before, all of them below the zeros of the mask m that is left; the lowest run, which ends at t, moves down by g, and r is left
 
--- ---- a turn of the loop: k bits taken before, all of them below the zeros of the mask m that is left; n ones are taken from z up, and r is left
-
-pub record Turn (w k m x z n r : ℕ) : Type 0 where
-  pub start : z < w
-  pub room : k < w
-  pub kept : k + n ≤ zerosOf w r
+pub record Turn (w k m x t r g : ℕ) : Type 0 where
+  pub start : g < w
+  pub ahead : g ≤ t
+  pub kept : t - g ≤ zerosOf w r
   pub less : r < m
-  pub adds : 2 ^ k * packIn w m x ≡ x / 2 ^ z % 2 ^ n * 2 ^ k % 2 ^ w + 2 ^ (k + n) * packIn w r x
+  pub adds : 2 ^ k * packIn w m x ≡ bitAnd x (m - r) / 2 ^ g + 2 ^ (t - g) * packIn w r x
 
 spread : (k n a b : ℕ) → 2 ^ k * (a + 2 ^ n * b) ≡ a * 2 ^ k + 2 ^ (k + n) * b
 spread k n a b =
     mul-add (2 ^ k) a (2 ^ n * b)
     ∙ ap₂ (λ (p q : ℕ). p + q) (mul-comm (2 ^ k) a) (sym (mul-assoc (2 ^ k) (2 ^ n) b) ∙ ap (λ (p : ℕ). p * b) (sym (pow-add 2 k n)))
 
+-- the bits of x at the n ones from k + g up, moved down by g
+moved : (x n k g : ℕ) → bitAnd x (2 ^ (n + (k + g)) - 2 ^ (k + g)) / 2 ^ g ≡ x / 2 ^ (k + g) % 2 ^ n * 2 ^ k
+moved x n k g =
+    let a = x / 2 ^ (k + g) % 2 ^ n in
+    ap (λ (b : ℕ). b / 2 ^ g) (and-high x n (k + g) ∙ ap (λ (p : ℕ). a * p) (pow-add 2 k g) ∙ sym (mul-assoc a (2 ^ k) (2 ^ g))) ∙ shl-shr (a * 2 ^ k) g
+
+pub turn-none : (w k m x : ℕ) → m ≡ 0 → 2 ^ k * packIn w m x ≡ 0
+turn-none w k m x e = ap (λ (n : ℕ). 2 ^ k * packIn w n x) e ∙ ap (λ (n : ℕ). 2 ^ k * n) (pack-zero w x) ∙ mul-zero (2 ^ k)
+
 abbrev pub TurnAt : ℕ → ℕ → ℕ → ℕ → Type 0
-TurnAt w k m x = Turn w k m x (zerosOf w m) (zerosOf w (above m) - zerosOf w m) (rest m)
+TurnAt w k m x = Turn w k m x (zerosOf w (above m)) (rest m) (zerosOf w m - k)
 
 module _ (w k m x : ℕ) (p : 0 < m) (h : m < 2 ^ w) (l : k ≤ zerosOf w m) where
   pub turn : TurnAt w k m x
   turn =
       let s = lowest w m p h in
       let z = zerosOf w m in
-      let n = zerosOf w (above m) - zerosOf w m in
-      let f : k + n ≤ zerosOf w (above m) = omega (arith, s .some) in
+      let t = zerosOf w (above m) in
+      let g = z - k in
+      let n = t - z in
+      let e : k + g ≡ z = omega arith in
+      let f : n + z ≡ t = omega (arith, s .some) in
+      let j : k + n ≡ t - g = omega (arith, s .some) in
+      let q : m - rest m ≡ 2 ^ t - 2 ^ z = omega (arith, s .whole, pow-lt (s .some)) in
+      let v : bitAnd x (m - rest m) / 2 ^ g ≡ x / 2 ^ z % 2 ^ n * 2 ^ k = rw (e, f, sym q) at (moved x n k g) in
       record {
-        start = zeros-lt w m p h;
-        room = lt-of-le-of-lt l (zeros-lt w m p h);
-        kept = le-trans f (zeros-and w m (above m));
-        less = s .less;
-        adds = ap (λ (q : ℕ). 2 ^ k * q) (s .taken x) ∙ spread k n (x / 2 ^ z % 2 ^ n) (packIn w (rest m) x)
-            ∙ ap (λ (q : ℕ). q + 2 ^ (k + n) * packIn w (rest m) x)
-            (sym (shl-exact n k w (mod-lt (x / 2 ^ z) (pow-pos n)) (omega (arith, f, trailing-le w (above m)))));
+        start = omega (arith, s .some, trailing-le w (above m));
+        ahead = omega (arith, s .some);
+        kept = le-trans (omega arith) (zeros-and w m (above m));
+        less = omega (arith, s .whole, pow-lt (s .some));
+        adds = ap (λ (b : ℕ). 2 ^ k * b) (s .taken x) ∙ spread k n (x / 2 ^ z % 2 ^ n) (packIn w (rest m) x)
+            ∙ ap₂ (λ (a i : ℕ). a + 2 ^ i * packIn w (rest m) x) (sym v) j;
       }
 
   -- a run that reaches the top is all that is left
-  pub turn-full : x < 2 ^ w → above m ≡ 2 ^ w → 2 ^ k * packIn w m x ≡ x / 2 ^ zerosOf w m * 2 ^ k % 2 ^ w
-  turn-full hx e =
-      let z = zerosOf w m in
-      let g : (w - z) + z ≡ w = omega (arith, zeros-lt w m p h) in
-      let hx′ : x < 2 ^ ((w - z) + z) = rw g hx in
-      let r : bitAnd m (2 ^ w) ≡ 0 = and-comm m (2 ^ w) ∙ ap (λ (a : ℕ). bitAnd a m) (sym (one-mul (2 ^ w))) ∙ and-shifted 1 w m h in
-      let s : Lowest w m z (zerosOf w (2 ^ w)) (bitAnd m (2 ^ w)) = subst (λ (a : ℕ). Lowest w m z (zerosOf w a) (bitAnd m a)) e (lowest w m p h) in
-      let s′ : Lowest w m z w 0 = rw (zeros-pow w, r) at s in
-      ap (λ (q : ℕ). 2 ^ k * q)
-      (s′ .taken x ∙ ap₂ (λ (a b : ℕ). a + 2 ^ (w - z) * b) (shr-mod (w - z) z hx′) (pack-zero w x) ∙ ap (λ (b : ℕ). x / 2 ^ z + b) (mul-zero (2 ^ (w - z))) ∙ add-zero (x / 2 ^ z))
-      ∙ mul-comm (2 ^ k) (x / 2 ^ z) ∙ sym (shl-exact (w - z) k w (shr-lt (w - z) z hx′) (omega (arith, zeros-lt w m p h)))
-
-pub turn-none : (w k m x : ℕ) → m ≡ 0 → 2 ^ k * packIn w m x ≡ 0
-turn-none w k m x e = ap (λ (n : ℕ). 2 ^ k * packIn w n x) e ∙ ap (λ (n : ℕ). 2 ^ k * n) (pack-zero w x) ∙ mul-zero (2 ^ k)
+  pub turn-full : above m ≡ 2 ^ w → 2 ^ k * packIn w m x ≡ bitAnd x m / 2 ^ (zerosOf w m - k)
+  turn-full e =
+      let i = zerosOf w (above m) - (zerosOf w m - k) in
+      let r : rest m ≡ 0 = ap (bitAnd m) e ∙ and-comm m (2 ^ w) ∙ ap (λ (a : ℕ). bitAnd a m) (sym (one-mul (2 ^ w))) ∙ and-shifted 1 w m h in
+      turn .adds
+      ∙ ap (λ (b : ℕ). bitAnd x (m - b) / 2 ^ (zerosOf w m - k) + 2 ^ i * packIn w b x) r
+      ∙ ap₂ (λ (a b : ℕ). bitAnd x a / 2 ^ (zerosOf w m - k) + b) (sub-zero m) (turn-none w i 0 x refl)
+      ∙ add-zero _
