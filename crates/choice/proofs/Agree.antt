@@ -45,7 +45,7 @@ ltb-other a b c d m p q = go (ltb d c) refl
     go true e = lt-ltb a b (omega (arith, ltb-true d c e))
     go false e = le-ltb a b (omega (arith, ltb-false d c e))
 
-ltb-rest : (c d m : ℕ) → c ≤ m → d ≤ m → ltb d c ≡ ltb (m - c) (m - d)
+pub ltb-rest : (c d m : ℕ) → c ≤ m → d ≤ m → ltb d c ≡ ltb (m - c) (m - d)
 ltb-rest c d m p q = go (ltb d c) refl
   where
     go : (t : Bool) → ltb d c ≡ t → t ≡ ltb (m - c) (m - d)

@@ -3,20 +3,16 @@ use Prim.Native.Nat.{ℕ, zero, suc, _+_, _-_, _*_, _/_, _≤_, _<_}
 use native.Mathlib.Nat.{mul-le-mul, le-trans}
 use native.Mathlib.Omega.{arith}
 use mathlib.Core.Path.{_≡_, refl, sym, ap, ap₂, subst, _∙_}
-use mathlib.Core.Bool.{Bool, true, false, cond, _||_}
+use mathlib.Core.Bool.{false}
 use mathlib.Core.List.{List, [], _∷_, _++_}
-use borrow.Author.Tests.{ltb-false, leb-false, eq-eqb, eqb-false}
 use lib.Bits.{bitXor}
 use lib.Count.{ones}
-use lib.Dec.{eqb, leb, ltb}
 use lib.ListN.{length, getD, replicate, take}
 use lib.Seq.{getD-take, length-take-le}
 use Rattle.lists.specs.Cut.{cut, total}
 use Rattle.lists.proofs.Members.{all-map}
 use Rattle.lists.proofs.Parts.{part-take}
-use Rattle.lists.proofs.Tests.{or-false}
 use Rattle.vectors.specs.declared.Kind.{Kind}
-use Rattle.vectors.specs.declared.Kind.the-variants.{One, Two}
 use Rattle.vectors.specs.Variable.{valueOf, faulty}
 use Rattle.vectors.specs.Choice.{candidates, bestOf}
 use Rattle.vectors.proofs.Choice.Squares.{tally}
@@ -26,6 +22,8 @@ use Rattle.choice.specs.Gain.{wholeGain, pairGain, gains, Counts, mostOf
 use Rattle.vectors.specs.Bounds.{maxInputs}
 use Rattle.choice.specs.Best.{scoreOf, Searched}
 use Rattle.choice.specs.Judged.{maxGain, Drawn, tallyAt, gainAt, Sheet, Sheets, leftBy}
+use Rattle.choice.specs.Search.{Beaten}
+use Rattle.choice.specs.Ties.{xorOf, Ties}
 use Rattle.choice.specs.Inner.{Bounds, LaidOut}
 use Rattle.choice.specs.declared.lay.Laid.{Laid}
 use Rattle.choice.proofs.Columns.{value-linear, ones-columns}
@@ -33,6 +31,8 @@ use Rattle.choice.proofs.Halves.{halves, halves-low}
 use Rattle.choice.proofs.Laid.{ends-few}
 use Rattle.choice.proofs.Blocks.{blocks-gain, blocks-count, pairs-high}
 use Rattle.choice.proofs.Agree.{best-gains, gains-words}
+use Rattle.choice.proofs.Order.{inputs-in, kindOf, kind-first, kind-second, kind-sound}
+use Rattle.choice.proofs.Tying.{gain-pair, ties-beaten, beaten-same}
 
 -- ---- tallies that are the same where they are looked at
 
@@ -61,18 +61,6 @@ module _ (t u : ℕ → ℕ) where
         λ z. counts-same es (suc w) (a + t w) on (rw here (c .0 z)),
         λ z. (rw here (c .1 z .0), counts-same es (suc w) 0 on (c .1 z .1)),
       )
-
--- ---- the inputs of a candidate
-
-pub inputs-in : (n : ℕ) (k : Kind) → faulty n k ≡ false → (first k ≤ n) × (second k ≤ n) × (0 < second k)
-inputs-in n (One i) f =
-    let a = or-false (eqb i 0) (ltb n i) f in
-    (omega arith, ltb-false n i (a .1), omega (arith, eqb-false i 0 (a .0)))
-inputs-in n (Two i j) f =
-    let a = or-false (eqb i 0 || leb j i) (ltb n j) f in
-    let l = leb-false j i (or-false (eqb i 0) (leb j i) (a .0) .1) in
-    let m = ltb-false n j (a .1) in
-    (omega arith, m, omega arith)
 
 -- ---- the sheet of groups
 
@@ -106,10 +94,10 @@ module _ (sizes words columns rests : List ℕ) (n zeros : ℕ) (s : Searched si
     u w = tally (λ x. valueOf x k) (block w (itemsOf gs ++ replicate zeros 0))
 
     first-low : first k ≤ maxInputs
-    first-low = omega (arith, inputs-in n k right .0, s .inputs)
+    first-low = omega (arith, inputs-in n k right, s .inputs)
 
     second-low : second k ≤ maxInputs
-    second-low = omega (arith, inputs-in n k right .1, s .inputs)
+    second-low = omega (arith, inputs-in n k right, s .inputs)
 
     -- a block's tally is that of its items
     tally-is : (w : ℕ) → w < blocks → t w ≡ u w
@@ -142,7 +130,7 @@ module _ (sizes words columns rests : List ℕ) (n zeros : ℕ) (s : Searched si
           fit = rw rests-is fit;
           first-in = first-low;
           second-in = second-low;
-          second-some = inputs-in n k right .2;
+          second-some = omega (arith, inputs-in n k right);
           counts = counts-same t u ends 0 0 (λ w l m. tally-is w (omega (arith, whole-few))) (blocks-count (λ x. valueOf x k) (value-linear k) gs zeros);
           low = rw (rests-is, gain-is) (low k);
           most-high = omega (arith, halves-are);
@@ -152,13 +140,23 @@ module _ (sizes words columns rests : List ℕ) (n zeros : ℕ) (s : Searched si
         }
 
   pub sheets : Sheets columns (endsOf (cut sizes words)) (take (blocksIn (cut sizes words)) rests) (mostOf sizes) n
-  sheets k right = serves k right
+  sheets zero j h l = serves (kindOf zero j) (kind-sound n zero j h l)
+  sheets (suc i) j h l = serves (kindOf (suc i) j) (kind-sound n (suc i) j h l)
 
   pub sheet-best : (degree : ℕ) → bestOf (leftBy columns (endsOf (cut sizes words)) (blocksIn (cut sizes words))) (candidates n degree) ≡ bestOf (scoreOf sizes words) (candidates n degree)
   sheet-best degree =
       sym
       (best-gains sizes words maxGain (λ k. gainAt columns ends blocks (first k) (second k)) low (candidates n degree)
       (all-map (λ k. faulty n k ≡ false) (λ k. gainAt columns ends blocks (first k) (second k) ≡ gains (λ x. valueOf x k) gs) gain-is (candidates n degree) (candidates-sound n degree)))
+
+  -- what two inputs tell apart, by their XOR
+  pairs-gain : (i j : ℕ) → i < j → j ≤ n → gains (xorOf i j) gs ≡ gainAt columns ends blocks i j
+  pairs-gain zero j h l = sym (gain-pair gs zero j) ∙ sym (gain-is (kindOf zero j) (kind-sound n zero j h l))
+  pairs-gain (suc i) j h l = sym (gain-pair gs (suc i) j) ∙ sym (gain-is (kindOf (suc i) j) (kind-sound n (suc i) j h l))
+
+  -- a candidate with a tied input is beaten
+  pub sheet-beaten : (tied : ℕ) → Ties tied (λ x. x) (cut sizes words) → Beaten (tied / 2 * 2) (gainAt columns (endsOf (cut sizes words)) (blocksIn (cut sizes words))) n
+  sheet-beaten tied t = beaten-same (tied / 2 * 2) (λ i j. gains (xorOf i j) gs) (gainAt columns ends blocks) n pairs-gain (ties-beaten gs n tied (s .inputs) t)
 
 -- ---- as the code has laid and drawn it
 
@@ -190,8 +188,16 @@ module _ (sizes words items ends rests columns : List ℕ) (n : ℕ) (r : Laid) 
       (subst (λ (m : ℕ). Sheets columns (endsOf (cut sizes words)) (take ((m + 63) / 64) rests) (mostOf sizes) n) (sym (o .count-is))
       (sheets sizes words columns rests n zeros s fits (o .bounds) drawn))
 
+  blocks-are : length (take ((r .items + 63) / 64) rests) ≡ blocksIn (cut sizes words)
+  blocks-are = sym (rests-size o) ∙ ap blocksOf (o .count-is)
+
+  pub made-beaten : (tied : ℕ) → Ties tied (λ x. x) (cut sizes words) → Beaten (tied / 2 * 2) (gainAt columns (take (r .whole) ends) (length (take ((r .items + 63) / 64) rests))) n
+  made-beaten tied t =
+      subst (λ (l : List ℕ). Beaten (tied / 2 * 2) (gainAt columns l (length (take ((r .items + 63) / 64) rests))) n) (sym (o .ends-are))
+      (subst (λ (m : ℕ). Beaten (tied / 2 * 2) (gainAt columns (endsOf (cut sizes words)) m) n) (sym blocks-are)
+      (sheet-beaten sizes words columns rests n zeros s fits (o .bounds) drawn tied t))
+
   pub made-best : (degree : ℕ) → bestOf (leftBy columns (take (r .whole) ends) (length (take ((r .items + 63) / 64) rests))) (candidates n degree) ≡ bestOf (scoreOf sizes words) (candidates n degree)
   made-best degree =
-      let size : length (take ((r .items + 63) / 64) rests) ≡ blocksIn (cut sizes words) = sym (rests-size o) ∙ ap blocksOf (o .count-is) in
-      ap₂ (λ (l : List ℕ) (m : ℕ). bestOf (leftBy columns l m) (candidates n degree)) (o .ends-are) size
+      ap₂ (λ (l : List ℕ) (m : ℕ). bestOf (leftBy columns l m) (candidates n degree)) (o .ends-are) blocks-are
       ∙ sheet-best sizes words columns rests n zeros s fits (o .bounds) drawn degree

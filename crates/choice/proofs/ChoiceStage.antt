@@ -5,6 +5,7 @@ use native.Mathlib.Numerals.{add-one}
 use mathlib.Core.Path.{_≡_, refl, sym, ap, ap₂, _∙_, fun-ext}
 use mathlib.Core.Bool.{Bool, true, false}
 use mathlib.Core.List.{List, [], _∷_, _++_, map, map-append, append-assoc}
+use lib.Bits.{bitOr}
 use lib.Dec.{eqb}
 use lib.ListN.{length, getD, take, set, replicate, length-set, length-map, length-append}
 use lib.Seq.{take-suc-set, length-take-le, set-at}
@@ -13,7 +14,7 @@ use Rattle.lists.proofs.Tests.{eqb-iff}
 use Rattle.vectors.specs.declared.Kind.{Kind}
 use Rattle.vectors.specs.declared.Kind.the-variants.{One}
 use Rattle.vectors.specs.declared.Variable.{Variable}
-use Rattle.vectors.specs.Variable.{valueOf, maskOf, kindsOf}
+use Rattle.vectors.specs.Variable.{valueOf, maskOf, kindsOf, faulty}
 use Rattle.vectors.specs.Choice.{left, apart, bestOf, nextOf, chooseIn, choose, candidates}
 use Rattle.vectors.proofs.Numbers.{value-word, kinds-length}
 use Rattle.vectors.proofs.Choice.Steps.{choose-stop, choose-more}
@@ -25,8 +26,10 @@ use Rattle.choice.specs.declared.groups.Groups.{Groups}
 use Rattle.vectors.specs.Bounds.{maxInputs, maxVariables}
 use Rattle.choice.specs.Groups.{cut, Shape, GroupsAre, groupsOf, sizesOf, orderOf, valueAt}
 use Rattle.choice.specs.Best.{scoreOf}
+use Rattle.choice.specs.Ties.{Ties, laterOf}
 use Rattle.choice.specs.Choosing.{rowVariable, placed, chosenAs, chosenBy}
 use Rattle.choice.proofs.GroupsCut.{cut-map, cut-length}
+use Rattle.choice.proofs.ChoiceTies.{ties-more}
 
 -- no group is left exactly when the count is 0
 count-none : (k : ℕ) (g : Groups) → Shape k g → g .count ≡ 0 → groupsOf g ≡ []
@@ -112,6 +115,14 @@ module _ {vs : List ℕ} {cs : List Kind} {g : Groups} {variables : List Variabl
             ∙ ap (λ f. chooseIn f cs vs (takenIn variables p)) (sym d)
             ∙ s .same);
       }
+
+  -- and the inputs that are tied by it
+  pub stage-ties : (n tied later : ℕ) (c : Kind) (m : ℕ) (g′ : Groups) → n ≤ maxInputs → faulty n c ≡ false → ((i : ℕ) → getD vs i 0 < 2 ^ maxInputs)
+      → m ≡ maskOf c % 2 ^ maxInputs → later ≡ laterOf c → GroupsAre (length vs) (refined (valueAt vs m) (groupsOf g)) g′
+      → Ties tied (λ i. getD vs i 0) (groupsOf g) → Ties (bitOr tied later) (λ i. getD vs i 0) (groupsOf g′)
+  stage-ties n tied later c m g′ h sound fits e l a t =
+      rw (a .are, e, l)
+      (rw (value-at vs fits c) (ties-more (λ i. getD vs i 0) n tied c (groupsOf g) h sound (s .grouped .many) t))
 
 -- ---- the ends
 

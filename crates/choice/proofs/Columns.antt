@@ -24,7 +24,7 @@ pub value-linear : (k : Kind) → Linear (λ x. valueOf x k)
 value-linear k = rw value-mask at (parity-linear (maskOf k))
 
 -- by its two inputs
-value-inputs : (x : ℕ) (k : Kind) → (input x (first k) + input x (second k)) % 2 ≡ valueOf x k
+pub value-inputs : (x : ℕ) (k : Kind) → (input x (first k) + input x (second k)) % 2 ≡ valueOf x k
 unfolding valueOf
 value-inputs x (One i) = omega (arith, input-lt x i)
 value-inputs x (Two i j) = refl

@@ -12,10 +12,8 @@ use lib.Bits.{bitXor}
 use lib.Dec.{eqb}
 use lib.ListN.{length, getD, drop, drop-of-length-le}
 use lib.Seq.{drop-cons}
-use Rattle.choice.specs.Layout.{first, second}
-use Rattle.vectors.specs.declared.Kind.{Kind}
 use Rattle.choice.proofs.Splits.{splits-half}
-use Rattle.choice.specs.Judged.{maxGain, columnAt, crossAt, tallyAt, gainAt, leftBy, Pairs, Sheet, Judges}
+use Rattle.choice.specs.Judged.{maxGain, columnAt, crossAt, tallyAt, gainAt, Pairs, Sheet, Judges}
 use Rattle.choice.specs.Gain.{splits, wholeGain, mostOf, pairGain, Counts}
 
 -- ---- two columns
@@ -276,6 +274,12 @@ module _ (columns ends rests : List ℕ) (most i j : ℕ) (s : Sheet columns end
           rw z (omega arith)
       go (inr h) = omega (arith, s .rests-high (length ends) (omega arith) h, s .rests-low (length ends) (omega arith) h)
 
+  -- and all together no more than the halves
+  pub gain-most : gainAt columns ends (length rests) i j ≤ most
+  gain-most =
+      let sum = gain-sum columns ends (length rests) i j _ _ refl refl in
+      omega (arith, sum, sheet-low, whole-most ends (tallyAt columns i j) 0 0 (s .counts), s .most-high)
+
 pub gain-whole : (columns ends : List ℕ) (blocks i j : ℕ) → wholeGain ends (tallyAt columns i j) 0 0 ≤ gainAt columns ends blocks i j
 unfolding gainAt
 gain-whole columns ends blocks i j = omega arith
@@ -287,13 +291,3 @@ judges-exact exact beat r e = record { above = λ l. e; below = λ l. omega arit
 
 pub judges-none : (exact beat : ℕ) → exact ≤ beat → Judges exact beat 0
 judges-none exact beat h = record { above = λ l. absurd (omega arith); below = λ l. h }
-
-pub judges-first : (exact r : ℕ) → Judges exact 0 r → r ≡ exact
-judges-first exact zero j = omega (arith, j .below (omega arith))
-judges-first exact (suc r) j = j .above (omega arith)
-
--- ---- a candidate
-
-pub left-is : (columns ends : List ℕ) (blocks : ℕ) (k : Kind) (i j v : ℕ) → i ≡ first k → j ≡ second k → v ≡ gainAt columns ends blocks i j
-    → maxGain - v ≡ leftBy columns ends blocks k
-left-is columns ends blocks k i j v p q e = ap (λ (g : ℕ). maxGain - g) (e ∙ ap₂ (gainAt columns ends blocks) p q)

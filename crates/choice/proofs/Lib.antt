@@ -11,11 +11,15 @@ pub mod LayingWhole
 pub mod LayingSmall
 pub mod Drawing
 pub mod Judging
+pub mod Order
 pub mod Searching
+pub mod Rows
+pub mod Tying
 pub mod Answered
 pub mod GroupsCut
 pub mod GroupsSplit
 pub mod GroupsHeld
 pub mod ChoiceGather
+pub mod ChoiceTies
 pub mod ChoiceStage
 pub mod Choosing

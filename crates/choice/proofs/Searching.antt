@@ -1,56 +1,136 @@
--- The best candidate by loops: the best so far with what it leaves, and those still to try. Assumes nothing.
-use Prim.Native.Nat.{ℕ, _-_, _≤_, _<_}
-use mathlib.Core.Path.{_≡_, sym, ap, _∙_}
-use mathlib.Core.List.{List, [], _∷_, _++_}
-use Rattle.vectors.specs.declared.Kind.{Kind}
-use Rattle.vectors.specs.declared.Kind.the-variants.{One}
-use Rattle.vectors.specs.Choice.{ones, twos, candidates, fewest, bestOf}
-use Rattle.vectors.proofs.Choice.Loops.{better, better-new, better-old, fewest-append, best-one, best-two}
+-- The best candidate row by row: the best so far, no candidate before telling more apart. Assumes nothing.
+use Prim.Native.Nat.{ℕ, zero, suc, _+_, _-_, _*_, _≤_, _<_}
+use native.Mathlib.Nat.{le-trans}
+use native.Mathlib.Numerals.{add-one}
+use native.Mathlib.Omega.{arith}
+use mathlib.Core.Path.{_≡_, refl, sym, ap, ap₂, subst, _∙_}
+use mathlib.Core.Bool.{Bool, true, false, cond}
+use mathlib.Core.Logic.{_⊎_, inl, inr, ⊎-elim}
+use lib.Dec.{ltb}
+use borrow.Author.Tests.{ltb-true, ltb-false, lt-ltb, le-ltb}
+use Rattle.lists.proofs.Tests.{le-or-lt}
+use Rattle.vectors.specs.Bits.{input}
+use Rattle.vectors.specs.Bounds.{maxInputs}
 use Rattle.choice.specs.declared.search.Best.{Best}
-use Rattle.choice.specs.Judged.{judged}
+use Rattle.choice.specs.Search.{rank, betterOf, bestRow, bestRows, noneBest, Above, Beaten, RowIs}
 
-module _ (f : Kind → ℕ) where
-  pub better-taken : (s : ℕ) (b : Best) (c : Kind) → b ≡ judged f (b .kind) → s ≡ f c → s < b .left → record { kind = c; left = s } ≡ judged f (better f (b .kind) c)
-  better-taken s b c o e h =
-      let l : f c < f (b .kind) = rw (e, ap (λ (x : Best). x .left) o) at h in
-      rw (better-new f (b .kind) c l, e)
+module _ (g : ℕ → ℕ → ℕ) where
+  pub better-new : (b : Best) (i j v : ℕ) → v ≡ g i j → b .gain < v → record { i = i; j = j; gain = v } ≡ betterOf g b i j
+  better-new b i j v e h = let l : b .gain < g i j = omega arith in rw (lt-ltb (b .gain) (g i j) l, e)
 
-  pub better-left : (s : ℕ) (b : Best) (c : Kind) → b ≡ judged f (b .kind) → s ≡ f c → b .left ≤ s → b ≡ judged f (better f (b .kind) c)
-  better-left s b c o e h =
-      let l : f (b .kind) ≤ f c = rw (e, ap (λ (x : Best). x .left) o) at h in
-      o ∙ ap (judged f) (sym (better-old f (b .kind) c l))
+  pub better-old : (b : Best) (i j : ℕ) → g i j ≤ b .gain → b ≡ betterOf g b i j
+  better-old b i j h = rw (le-ltb (b .gain) (g i j) h)
 
-  pub own-of : (r : Best) (k : Kind) → r ≡ judged f k → r ≡ judged f (r .kind)
-  own-of r k e = e ∙ ap (λ (x : Best). judged f (x .kind)) (sym e)
+  better-high : (b : Best) (i j : ℕ) → (b .gain ≤ betterOf g b i j .gain) × (g i j ≤ betterOf g b i j .gain)
+  better-high b i j = go (ltb (b .gain) (g i j)) refl
+    where
+      go : (t : Bool) → ltb (b .gain) (g i j) ≡ t → (b .gain ≤ cond t (record { i = i; j = j; gain = g i j }) b .gain) × (g i j ≤ cond t (record { i = i; j = j; gain = g i j }) b .gain)
+      go true e = let l = ltb-true (b .gain) (g i j) e in (omega arith, omega arith)
+      go false e = let l = ltb-false (b .gain) (g i j) e in (omega arith, omega arith)
 
-  pub record Trying (goal : Kind) (b : Best) (todo : List Kind) : Type 0 where
-    pub own : b ≡ judged f (b .kind)
-    pub rest : fewest f (b .kind) todo ≡ goal
+  module _ (n : ℕ) where
+    -- ---- no candidate before tells more apart
 
-  pub trying-none : (b : Best) (todo cs : List Kind) → todo ≡ cs → b ≡ judged f (b .kind) → Trying (fewest f (b .kind) cs) b todo
-  trying-none b todo cs e o = record { own = o; rest = ap (fewest f (b .kind)) e }
+    -- none is before the first
+    pub above-none : Above g n noneBest (rank 0 1)
+    above-none i j h l p = absurd (omega arith)
 
-  module _ (goal : Kind) (b : Best) where
-    pub trying-end : (todo : List Kind) → todo ≡ [] → Trying goal b todo → b ≡ judged f goal
-    unfolding fewest
-    trying-end todo e t = t .own ∙ ap (judged f) (ap (fewest f (b .kind)) (sym e) ∙ t .rest)
+    -- one more
+    above-more : n ≤ maxInputs → (b : Best) (i j : ℕ) → i < j → j ≤ n → Above g n b (rank i j) → Above g n (betterOf g b i j) (rank i j + 1)
+    above-more fits b i j h l a x y p q r =
+        ⊎-elim (λ m. le-trans (a x y p q m) (better-high b i j .0)) (λ m. here (omega arith) (omega arith)) (le-or-lt (suc (rank x y)) (rank i j))
+      where
+        here : x ≡ i → y ≡ j → g x y ≤ betterOf g b i j .gain
+        here s t = subst (λ (v : ℕ). v ≤ betterOf g b i j .gain) (sym (ap₂ g s t)) (better-high b i j .1)
 
-    -- one tried
-    pub trying-more : (todo : List Kind) (c : Kind) (cs : List Kind) (r : Best) → todo ≡ c ∷ cs → r ≡ judged f (better f (b .kind) c) → Trying goal b todo → Trying goal r cs
-    unfolding fewest
-    trying-more todo c cs r e q t =
-        record { own = own-of r _ q; rest = ap (λ (x : Best). fewest f (x .kind) cs) q ∙ ap (fewest f (b .kind)) (sym e) ∙ t .rest }
+    -- no candidate stands between the last of a row and the first of the next
+    pub above-row : n ≤ maxInputs → (b : Best) (i : ℕ) → Above g n b (rank i (n + 1)) → Above g n b (rank (i + 1) (i + 1 + 1))
+    above-row fits b i a x y p q r = a x y p q (omega arith)
 
-    -- some tried
-    pub trying-some : (todo ds cs : List Kind) (r : Best) → todo ≡ ds ++ cs → r ≡ judged f (fewest f (b .kind) ds) → Trying goal b todo → Trying goal r cs
-    trying-some todo ds cs r e q t =
-        record { own = own-of r _ q; rest = ap (λ (x : Best). fewest f (x .kind) cs) q ∙ sym (fewest-append f (b .kind) ds cs) ∙ ap (fewest f (b .kind)) (sym e) ∙ t .rest }
+    -- a candidate with a tied input tells no more apart
+    pub above-tied : (tied : ℕ) → Beaten tied g n → (b : Best) (i j : ℕ) → i < j → j ≤ n → Above g n b (rank i j) → (input tied i ≡ 1) ⊎ (input tied j ≡ 1) → g i j ≤ b .gain
+    above-tied tied beaten b i j h l a t = let (x, y, p, q, r, m) = beaten i j h l t in le-trans m (a x y p q r)
 
-  -- ---- the best of all candidates
+    -- ---- a row
 
-  pub all-one : (n degree : ℕ) (r : Best) → 0 < n → (degree ≡ 2 → ⊥) → r ≡ judged f (fewest f (One 1) (ones (n - 1) 2)) → r .kind ≡ bestOf f (candidates n degree)
-  all-one n degree r h d e = ap (λ (x : Best). x .kind) e ∙ sym (best-one f n degree h d)
+    pub record Rowing (i : ℕ) (best b : Best) (j : ℕ) : Type 0 where
+      pub after : i < j
+      pub within : j ≤ n + 1
+      pub is : bestRow g b i (n + 1 - j) j ≡ bestRow g best i (n - i) (i + 1)
+      pub high : Above g n b (rank i j)
 
-  pub all-two : (n degree : ℕ) (b r : Best) → 0 < n → degree ≡ 2 → b ≡ judged f (fewest f (One 1) (ones (n - 1) 2)) → r ≡ judged f (fewest f (b .kind) (twos n 1))
-      → r .kind ≡ bestOf f (candidates n degree)
-  all-two n degree b r h d e q = ap (λ (x : Best). x .kind) q ∙ ap (λ (x : Best). fewest f (x .kind) (twos n 1)) e ∙ sym (best-two f n degree h d)
+    pub rowing-start : (i : ℕ) (best : Best) → i ≤ n → Above g n best (rank i (i + 1)) → Rowing i best best (i + 1)
+    rowing-start i best h a =
+        let e : n + 1 - (i + 1) ≡ n - i = omega arith in
+        record { after = omega arith; within = omega arith; is = ap (λ (d : ℕ). bestRow g best i d (i + 1)) e; high = a }
+
+    pub rowing-more : n ≤ maxInputs → (i : ℕ) (best b : Best) (j : ℕ) (r : Best) → j ≤ n → r ≡ betterOf g b i j → Rowing i best b j → Rowing i best r (j + 1)
+    unfolding bestRow
+    rowing-more fits i best b j r h e s =
+        let d : n + 1 - j ≡ suc (n + 1 - (j + 1)) = omega arith in
+        let q : bestRow g b i (n + 1 - j) j ≡ bestRow g (betterOf g b i j) i (n + 1 - (j + 1)) (j + 1) =
+        ap (λ (m : ℕ). bestRow g b i m j) d ∙ ap (λ (m : ℕ). bestRow g (betterOf g b i j) i (n + 1 - (j + 1)) m) (sym (add-one j)) in
+        rw e
+        record { after = omega (arith, s .after); within = omega arith; is = sym q ∙ s .is; high = λ x y p t r. above-more fits b i j (s .after) h (s .high) x y p t (omega arith) }
+
+    pub rowing-end : (i : ℕ) (best b : Best) (j : ℕ) → n < j → Rowing i best b j → RowIs g n i best b
+    unfolding bestRow
+    rowing-end i best b j h s =
+        let e : n + 1 - j ≡ 0 = omega arith in
+        record { is = sym (ap (λ (d : ℕ). bestRow g b i d j) e) ∙ s .is; high = λ x y p q r. s .high x y p q (omega arith) }
+
+    -- a tied row leaves the best as it is
+    module _ (fits : n ≤ maxInputs) (tied : ℕ) (beaten : Beaten tied g n) (i : ℕ) (t : input tied i ≡ 1) where
+      row-tied : (b : Best) (d j : ℕ) → i < j → j + d ≤ n + 1 → Above g n b (rank i j) → (b ≡ bestRow g b i d j) × Above g n b (rank i (j + d))
+      unfolding bestRow
+      row-tied b zero j h m a = (refl, λ x y p q r. a x y p q (omega arith))
+      row-tied b (suc d) j h m a =
+          let o : b ≡ betterOf g b i j = better-old b i j (above-tied tied beaten b i j h (omega arith) a (inl t)) in
+          let c : Above g n b (rank i (suc j)) = λ x y p q r. subst (λ (e : Best). g x y ≤ e .gain) (sym o) (above-more fits b i j h (omega arith) a x y p q (omega arith)) in
+          let (e, f) = row-tied b d (suc j) (omega arith) (omega arith) c in
+          (e ∙ ap (λ (x : Best). bestRow g x i d (suc j)) o, λ x y p q r. f x y p q (omega arith))
+
+      pub tied-row : (b : Best) → i ≤ n → Above g n b (rank i (i + 1)) → RowIs g n i b b
+      tied-row b h a =
+          let (e, f) = row-tied b (n - i) (i + 1) (omega arith) (omega arith) a in
+          record { is = e; high = λ x y p q r. f x y p q (omega arith) }
+
+    -- ---- the rows
+
+    pub record Going (goal b : Best) (rows i : ℕ) : Type 0 where
+      pub within : i ≤ rows
+      pub is : bestRows g n b i (rows - i) ≡ goal
+      pub high : Above g n b (rank i (i + 1))
+
+    pub going-start : (rows : ℕ) → Going (bestRows g n noneBest 0 rows) noneBest rows 0
+    going-start rows = let e : rows - 0 ≡ rows = omega arith in record { within = omega arith; is = ap (bestRows g n noneBest 0) e; high = above-none }
+
+    pub going-more : n ≤ maxInputs → (goal b r : Best) (rows i : ℕ) → i < rows → RowIs g n i b r → Going goal b rows i → Going goal r rows (i + 1)
+    unfolding bestRows
+    going-more fits goal b r rows i h s w =
+        let d : rows - i ≡ suc (rows - (i + 1)) = omega arith in
+        let q : bestRows g n b i (rows - i) ≡ bestRows g n (bestRow g b i (n - i) (i + 1)) (i + 1) (rows - (i + 1)) =
+        ap (λ (m : ℕ). bestRows g n b i m) d ∙ ap (λ (m : ℕ). bestRows g n (bestRow g b i (n - i) m) m (rows - (i + 1))) (sym (add-one i)) in
+        record { within = omega arith; is = ap (λ (x : Best). bestRows g n x (i + 1) (rows - (i + 1))) (s .is) ∙ sym q ∙ w .is; high = above-row fits r i (s .high) }
+
+    pub going-end : (goal b : Best) (rows i : ℕ) → rows ≤ i → Going goal b rows i → b ≡ goal
+    unfolding bestRows
+    going-end goal b rows i h w = let e : rows - i ≡ 0 = omega arith in sym (ap (bestRows g n b i) e) ∙ w .is
+
+    -- ---- nothing tells more apart
+
+    module _ (b : Best) (top : (i j : ℕ) → i < j → j ≤ n → g i j ≤ b .gain) where
+      row-top : (i d j : ℕ) → i < j → j + d ≤ n + 1 → b ≡ bestRow g b i d j
+      unfolding bestRow
+      row-top i zero j h m = refl
+      row-top i (suc d) j h m =
+          row-top i d (suc j) (omega arith) (omega arith) ∙ ap (λ (x : Best). bestRow g x i d (suc j)) (better-old b i j (top i j h (omega arith)))
+
+      rows-top : (i d : ℕ) → i + d ≤ n → b ≡ bestRows g n b i d
+      unfolding bestRows
+      rows-top i zero m = refl
+      rows-top i (suc d) m =
+          rows-top (suc i) d (omega arith) ∙ ap (λ (x : Best). bestRows g n x (suc i) d) (row-top i (n - i) (suc i) (omega arith) (omega arith))
+
+      pub going-top : (goal : Best) (rows i : ℕ) → rows ≤ n → Going goal b rows i → b ≡ goal
+      going-top goal rows i h w = rows-top i (rows - i) (omega (arith, w .within)) ∙ w .is

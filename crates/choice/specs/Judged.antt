@@ -7,9 +7,7 @@ use lib.Bits.{bitXor}
 use lib.Count.{ones}
 use lib.ListN.{length, getD}
 use Rattle.vectors.specs.declared.Kind.{Kind}
-use Rattle.vectors.specs.Variable.{faulty}
 use Rattle.choice.specs.declared.judge.Large.{Large}
-use Rattle.choice.specs.declared.search.Best.{Best}
 use Rattle.choice.specs.Layout.{maxBlocks, block, columnOf, first, second}
 use Rattle.choice.specs.Gain.{wholeGain, mostOf, pairGain, Counts}
 use Rattle.vectors.specs.Bounds.{maxInputs}
@@ -75,15 +73,11 @@ pub record Sheet (columns ends rests : List ℕ) (most i j : ℕ) : Type 0 where
 
 -- every candidate of n inputs can be judged
 abbrev pub Sheets : List ℕ → List ℕ → List ℕ → ℕ → ℕ → Type 0
-Sheets columns ends rests most n = (k : Kind) → faulty n k ≡ false → Sheet columns ends rests most (first k) (second k)
+Sheets columns ends rests most n = (i j : ℕ) → i < j → j ≤ n → Sheet columns ends rests most i j
 
 -- the less a candidate leaves, the more it tells apart
 abbrev pub leftBy : List ℕ → List ℕ → ℕ → Kind → ℕ
 leftBy columns ends blocks k = maxGain - gainAt columns ends blocks (first k) (second k)
-
--- a candidate with what it leaves
-abbrev pub judged : (Kind → ℕ) → Kind → Best
-judged f k = record { kind = k; left = f k }
 
 -- what the large groups give, or that with the pairs of the small ones they do not come above beat
 pub record WholeIs (exact pairs beat : ℕ) (r : Large) : Type 0 where

@@ -4,4 +4,6 @@ pub mod Best
 pub mod Groups
 pub mod Choosing
 pub mod Judged
+pub mod Search
+pub mod Ties
 pub mod Inner

@@ -2,19 +2,28 @@
 ghost use mathlib.Core.Path.{_≡_};
 ghost use Prim.Native.Nat.{_*_};
 ghost use lib.ListN.{length};
+ghost use Rattle.lists.specs.Cut.{cut};
 ghost use Rattle.vectors.specs.Choice.{bestOf, candidates};
 ghost use Rattle.choice.specs.Best.{Searched, scoreOf};
 ghost use Rattle.choice.specs.Layout.{maxBlocks};
+ghost use Rattle.choice.specs.Ties.{Ties};
 use crate::draw;
 use crate::judge;
 use crate::lay;
 use crate::search;
 use vectors::Kind;
 
-// The first of the candidates of n inputs that leave the fewest pairs of words, in groups of those sizes, that agree. The items are lent,
-// since they are large: what they hold before and after does not matter.
-pub(crate) fn best(words: &[u64], sizes: &[u16], n: u8, degree: usize, items: &mut [u64]) -> Kind
-    requires { ⌜ Searched (now sizes) (now words) n ⌝ }
+// The first of the candidates of n inputs that leave the fewest pairs of words, in groups of those sizes, that agree. Those with a tied
+// input are not tried, but for x_1. The items are lent, since they are large: what they hold before and after does not matter.
+pub(crate) fn best(
+    words: &[u64],
+    sizes: &[u16],
+    n: u8,
+    tied: u64,
+    degree: usize,
+    items: &mut [u64],
+) -> Kind
+    requires { ⌜ Searched (now sizes) (now words) n × Ties tied (λ x. x) (cut (now sizes) (now words)) ⌝ }
     requires { ⌜ length (now items) ≡ 64 * maxBlocks ⌝ }
     ensures { λ r. ⌜ r ≡ bestOf (scoreOf (now (sizes .entry)) (now (words .entry))) (candidates n degree) ⌝ }
 {
@@ -25,5 +34,13 @@ pub(crate) fn best(words: &[u64], sizes: &[u16], n: u8, degree: usize, items: &m
     let whole = laid.whole;
     let blocks = (laid.items + 63) / 64;
     draw::draw(items, blocks);
-    search::best_of(items, &ends[..whole], &rests[..blocks], most, n, degree)
+    search::best_of(
+        items,
+        &ends[..whole],
+        &rests[..blocks],
+        most,
+        n,
+        tied / 2 * 2,
+        degree,
+    )
 }

@@ -150,24 +150,16 @@ pub(crate) fn gain(
     ends: &[u16],
     rests: &[u64],
     most: u64,
-    i: u8,
-    j: u8,
+    i: usize,
+    j: usize,
     beat: u64,
 ) -> u64
     requires { ⌜ Sheet (now columns) (now ends) (now rests) most i j ⌝ }
     ensures { λ r. ⌜ Judges (gainAt (now (columns .entry)) (now (ends .entry)) (length (now (rests .entry))) i j) beat r ⌝ }
 {
-    let large = whole(columns, ends, i as usize, j as usize, most, beat);
+    let large = whole(columns, ends, i, j, most, beat);
     if large.hopeless {
         return 0;
     }
-    paired(
-        columns,
-        rests,
-        i as usize,
-        j as usize,
-        ends.len(),
-        large.gain,
-        beat,
-    )
+    paired(columns, rests, i, j, ends.len(), large.gain, beat)
 }

@@ -6,6 +6,7 @@ ghost use lib.ListN.{length, getD, take};
 ghost use Rattle.lists.proofs.Members.{All};
 ghost use Rattle.vectors.specs.Bounds.{maxInputs, maxVectors};
 ghost use Rattle.choice.specs.Choosing.{placed, chosenBy, noneChosen};
+ghost use Rattle.choice.specs.Ties.{laterOf};
 use crate::Chosen;
 use crate::best;
 use crate::groups;
@@ -46,7 +47,18 @@ pub(crate) fn none() -> Chosen
     }
 }
 
-// The variables by the rule: the best candidate until no two vectors agree or 24 are taken.
+// The word with the later input of a variable alone.
+fn later(kind: Kind) -> u64
+    ensures { λ r. ⌜ r ≡ laterOf kind ⌝ }
+{
+    match kind {
+        Kind::One(j) => vectors::mask(Kind::One(j)),
+        Kind::Two(_, j) => vectors::mask(Kind::One(j)),
+    }
+}
+
+// The variables by the rule: the best candidate until no two vectors agree or 24 are taken. In each group the two inputs of a variable
+// taken stay equal or stay different, so that the later one is tied: it tells apart what the earlier one does, and nothing else.
 pub(crate) fn choose(vectors: &[u64], n: u8, degree: usize) -> Chosen
     requires { ⌜ (0 < n) × (n ≤ maxInputs) × (length (now vectors) ≤ maxVectors) ⌝ }
     ensures { λ r. ⌜ r ≡ chosenBy (now (vectors .entry)) n degree ⌝ }
@@ -56,6 +68,7 @@ pub(crate) fn choose(vectors: &[u64], n: u8, degree: usize) -> Chosen
     let mut items = [1u64; 5632];
     let mut variables = blank_variables();
     let mut groups = groups::all(vectors.len());
+    let mut tied: u64 = 0;
     let mut p: usize = 0;
     while p < 24 {
         if groups.count == 0 {
@@ -70,8 +83,9 @@ pub(crate) fn choose(vectors: &[u64], n: u8, degree: usize) -> Chosen
         let m = groups.members;
         let q = groups.count;
         gather(vectors, &order[..m], &mut words);
-        let kind = best::best(&words[..m], &sizes[..q], n, degree, &mut items);
+        let kind = best::best(&words[..m], &sizes[..q], n, tied, degree, &mut items);
         groups = groups::refined(vectors, vectors::mask(kind), groups);
+        tied |= later(kind);
         variables[p] = Variable {
             kind,
             part: Part::Row,

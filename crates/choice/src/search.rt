@@ -1,99 +1,125 @@
-// The best candidate, by the pairs that each tells apart.
+// The best candidate, by the pairs that each tells apart. A candidate is two inputs i < j, with 0 for none in a single input's place: so the
+// candidates' order is that of such pairs.
 ghost use mathlib.Core.Path.{_≡_};
-ghost use mathlib.Core.Bool.{false};
 ghost use Prim.Native.Nat.{_+_, _-_, _≤_, _<_};
+ghost use lib.Dec.{eqb};
 ghost use lib.ListN.{length};
-ghost use Rattle.vectors.specs.Variable.{faulty};
-ghost use Rattle.vectors.specs.Choice.{ones, twosAt, twos, candidates, fewest, bestOf};
-ghost use Rattle.vectors.proofs.Choice.Loops as loops;
+ghost use Rattle.vectors.specs.Bits.{input};
 ghost use Rattle.vectors.specs.Bounds.{maxInputs};
-ghost use Rattle.choice.specs.Judged.{Sheets, leftBy, judged};
-ghost use Rattle.choice.specs.Layout.{first, second};
+ghost use Rattle.vectors.specs.Choice.{candidates, bestOf};
+ghost use Rattle.choice.specs.Judged.{Sheet, Sheets, gainAt, leftBy};
+ghost use Rattle.choice.specs.Search.{rank, betterOf, bestRow, bestRows, noneBest, Above, Beaten, RowIs, rowsOf};
 use crate::judge;
 use vectors::Kind;
 
-// A candidate, and what it leaves: 2^20 less the pairs that it tells apart.
+// Two inputs, and the pairs of members that their XOR tells apart.
 pub(crate) struct Best {
-    kind: Kind,
-    left: u64,
+    i: usize,
+    j: usize,
+    gain: u64,
 }
 
-// The better of the best so far and one more candidate, of inputs i and j.
+// Whether input i is tied to an earlier one: no candidate with it can win.
+fn is_tied(tied: u64, i: usize) -> bool
+    requires { ⌜ i ≤ maxInputs ⌝ }
+    ensures { λ r. ⌜ r ≡ eqb (input tied i) 1 ⌝ }
+{
+    if i == 0 {
+        return false;
+    }
+    (tied >> (i - 1)) % 2 == 1
+}
+
+// The better of the best so far and one more candidate, of inputs i and j; it is not judged where j is tied.
 fn better(
     columns: &[u64],
     ends: &[u16],
     rests: &[u64],
     most: u64,
-    n: u8,
-    kind: Kind,
-    i: u8,
-    j: u8,
+    tied: u64,
+    i: usize,
+    j: usize,
     best: Best,
 ) -> Best
-    requires { ⌜ Sheets (now columns) (now ends) (now rests) most n × (faulty n kind ≡ false) × (i ≡ first kind) × (j ≡ second kind) ⌝ }
-    requires { ⌜ best ≡ judged (leftBy (now columns) (now ends) (length (now rests))) (best .kind) ⌝ }
-    ensures { λ r. ⌜ r ≡ judged (leftBy (now (columns .entry)) (now (ends .entry)) (length (now (rests .entry)))) (loops.better (leftBy (now (columns .entry)) (now (ends .entry)) (length (now (rests .entry)))) (best .kind) kind) ⌝ }
+    requires { ⌜ Sheet (now columns) (now ends) (now rests) most i j × (input tied j ≡ 1 → gainAt (now columns) (now ends) (length (now rests)) i j ≤ best .gain) ⌝ }
+    ensures { λ r. ⌜ r ≡ betterOf (gainAt (now (columns .entry)) (now (ends .entry)) (length (now (rests .entry)))) best i j ⌝ }
 {
-    let beat = 1048576 - best.left;
-    let gain = judge::gain(columns, ends, rests, most, i, j, beat);
-    if beat < gain {
-        Best {
-            kind,
-            left: 1048576 - gain,
-        }
+    if is_tied(tied, j) {
+        return best;
+    }
+    let gain = judge::gain(columns, ends, rests, most, i, j, best.gain);
+    if best.gain < gain {
+        Best { i, j, gain }
     } else {
         best
     }
 }
 
-// The candidates of one input after x_1.
-fn best_one(columns: &[u64], ends: &[u16], rests: &[u64], most: u64, n: u8, best: Best) -> Best
-    requires { ⌜ (n ≤ maxInputs) × Sheets (now columns) (now ends) (now rests) most n × (best ≡ judged (leftBy (now columns) (now ends) (length (now rests))) (best .kind)) ⌝ }
-    ensures { λ r. ⌜ r ≡ judged (leftBy (now (columns .entry)) (now (ends .entry)) (length (now (rests .entry)))) (fewest (leftBy (now (columns .entry)) (now (ends .entry)) (length (now (rests .entry)))) (best .kind) (ones (n - 1) 2)) ⌝ }
-{
-    let mut b = best;
-    let mut i: u8 = 2;
-    while i <= n {
-        b = better(columns, ends, rests, most, n, Kind::One(i), 0, i, b);
-        i += 1;
-    }
-    b
-}
-
-// The pairs of x_i with each later input.
-fn best_two_at(
+// Input i with each later one; none is judged where i is tied.
+fn best_row(
     columns: &[u64],
     ends: &[u16],
     rests: &[u64],
     most: u64,
-    n: u8,
-    i: u8,
+    n: usize,
+    tied: u64,
+    i: usize,
     best: Best,
 ) -> Best
-    requires { ⌜ (n ≤ maxInputs) × (0 < i) × (i ≤ n) × Sheets (now columns) (now ends) (now rests) most n × (best ≡ judged (leftBy (now columns) (now ends) (length (now rests))) (best .kind)) ⌝ }
-    ensures { λ r. ⌜ r ≡ judged (leftBy (now (columns .entry)) (now (ends .entry)) (length (now (rests .entry)))) (fewest (leftBy (now (columns .entry)) (now (ends .entry)) (length (now (rests .entry)))) (best .kind) (twosAt (n - i) i (i + 1))) ⌝ }
+    requires { ⌜ (n ≤ maxInputs) × (i ≤ n) × Sheets (now columns) (now ends) (now rests) most n ⌝ }
+    requires { ⌜ Beaten tied (gainAt (now columns) (now ends) (length (now rests))) n × Above (gainAt (now columns) (now ends) (length (now rests))) n best (rank i (i + 1)) ⌝ }
+    ensures { λ r. ⌜ RowIs (gainAt (now (columns .entry)) (now (ends .entry)) (length (now (rests .entry)))) n i best r ⌝ }
 {
+    if is_tied(tied, i) {
+        return best;
+    }
     let mut b = best;
     let mut j = i + 1;
     while j <= n {
-        b = better(columns, ends, rests, most, n, Kind::Two(i, j), i, j, b);
+        b = better(columns, ends, rests, most, tied, i, j, b);
         j += 1;
     }
     b
 }
 
-// All pairs, (1,2) to (n-1,n).
-fn best_two(columns: &[u64], ends: &[u16], rests: &[u64], most: u64, n: u8, best: Best) -> Best
-    requires { ⌜ (n ≤ maxInputs) × Sheets (now columns) (now ends) (now rests) most n × (best ≡ judged (leftBy (now columns) (now ends) (length (now rests))) (best .kind)) ⌝ }
-    ensures { λ r. ⌜ r ≡ judged (leftBy (now (columns .entry)) (now (ends .entry)) (length (now (rests .entry)))) (fewest (leftBy (now (columns .entry)) (now (ends .entry)) (length (now (rests .entry)))) (best .kind) (twos n 1)) ⌝ }
+// So many rows of n inputs, from that of input 0 on. None is tried after a candidate that tells as much apart as any can.
+fn best_rows(
+    columns: &[u64],
+    ends: &[u16],
+    rests: &[u64],
+    most: u64,
+    n: usize,
+    tied: u64,
+    rows: usize,
+) -> Best
+    requires { ⌜ (n ≤ maxInputs) × (rows ≤ n) × Sheets (now columns) (now ends) (now rests) most n ⌝ }
+    requires { ⌜ Beaten tied (gainAt (now columns) (now ends) (length (now rests))) n ⌝ }
+    ensures { λ r. ⌜ r ≡ bestRows (gainAt (now (columns .entry)) (now (ends .entry)) (length (now (rests .entry)))) n noneBest 0 rows ⌝ }
 {
-    let mut b = best;
-    let mut i: u8 = 1;
-    while i <= n {
-        b = best_two_at(columns, ends, rests, most, n, i, b);
+    let mut b = Best {
+        i: 0,
+        j: 1,
+        gain: 0,
+    };
+    let mut i = 0;
+    while i < rows {
+        if most <= b.gain {
+            return b;
+        }
+        b = best_row(columns, ends, rests, most, n, tied, i, b);
         i += 1;
     }
     b
+}
+
+// How many rows the candidates have.
+fn rows_of(n: usize, degree: usize) -> usize
+    ensures { λ r. ⌜ r ≡ rowsOf n degree ⌝ }
+{
+    if degree == 2 {
+        return n;
+    }
+    1
 }
 
 // The first of the candidates that leaves the least.
@@ -103,20 +129,26 @@ pub(crate) fn best_of(
     rests: &[u64],
     most: u64,
     n: u8,
+    tied: u64,
     degree: usize,
 ) -> Kind
     requires { ⌜ (0 < n) × (n ≤ maxInputs) × Sheets (now columns) (now ends) (now rests) most n ⌝ }
+    requires { ⌜ Beaten tied (gainAt (now columns) (now ends) (length (now rests))) n ⌝ }
     ensures { λ r. ⌜ r ≡ bestOf (leftBy (now (columns .entry)) (now (ends .entry)) (length (now (rests .entry)))) (candidates n degree) ⌝ }
 {
-    let first = Best {
-        kind: Kind::One(1),
-        left: 1048576 - judge::gain(columns, ends, rests, most, 0, 1, 0),
-    };
-    let b = best_one(columns, ends, rests, most, n, first);
-    if degree == 2 {
-        let c = best_two(columns, ends, rests, most, n, b);
-        c.kind
+    let inputs = n as usize;
+    let b = best_rows(
+        columns,
+        ends,
+        rests,
+        most,
+        inputs,
+        tied,
+        rows_of(inputs, degree),
+    );
+    if b.i == 0 {
+        Kind::One(b.j as u8)
     } else {
-        b.kind
+        Kind::Two(b.i as u8, b.j as u8)
     }
 }

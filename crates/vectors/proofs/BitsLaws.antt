@@ -156,6 +156,10 @@ pub input-lt : (x i : ℕ) → input x i < 2
 input-lt x zero = zero-lt-suc 1
 input-lt x (suc i) = mod-lt (x / 2 ^ i) (zero-lt-suc 1)
 
+pub input-bit : (x i : ℕ) → 0 < i → bit x (i - 1) ≡ input x i
+input-bit x zero h = absurd (omega arith)
+input-bit x (suc i) h = let e : suc i - 1 ≡ i = omega arith in ap (bit x) e
+
 pub ones-place : (x i : ℕ) → ones (bitAnd x (placeOf i)) ≡ input x i
 unfolding ones
 ones-place x zero = ap ones (and-zero-r x)

@@ -1,4 +1,5 @@
 pub mod BitsLaws
+pub mod BitSet
 pub mod Numbers
 pub mod Packing
 pub mod Runs

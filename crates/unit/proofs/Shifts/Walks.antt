@@ -16,7 +16,8 @@ use Rattle.rows.specs.Fit.{inside, put}
 use Rattle.unit.specs.Inner.Chains.{columnIn, nextIn, chain, Rises, topFrom, topOf}
 use Rattle.unit.specs.Inner.Taken.{bitIn, shutRow}
 use Rattle.unit.proofs.Shifts.Chains.{chain-end, chain-step}
-use Rattle.unit.proofs.Shifts.Words.{bit-or, ones-bit}
+use Rattle.vectors.proofs.BitSet.{bit-or}
+use Rattle.unit.proofs.Shifts.Words.{ones-bit}
 
 max-assoc : (a b r : ℕ) → max (max a b) r ≡ max a (max b r)
 max-assoc a b r = omega arith

@@ -1,34 +1,15 @@
 -- Bits of a word of 64: a window over two words, one bit set, the first 0. Assumes nothing.
 use Prim.Native.Nat.{ℕ, zero, suc, _+_, _-_, _*_, _/_, _%_, _^_, max, _≤_, _<_}
-use native.Mathlib.Nat.{pow-suc, div-eq-of-lt, lt-of-lt-of-le}
+use native.Mathlib.Nat.{pow-suc}
 use native.Mathlib.Omega.{arith}
 use mathlib.Core.Path.{_≡_, refl, ap, ap₂, _∙_}
 use mathlib.Core.Logic.{_⊎_, inl, inr}
-use lib.Bits.{bitOr, or-shr, or-step}
+use lib.Bits.{bitOr}
 use lib.Count.{trailingZeros, under, trailing-of-zero}
-use lib.Pow.{pow-mono}
 use Rattle.lists.proofs.Tests.{le-or-lt}
 use Rattle.vectors.specs.Bits.{bit}
-use Rattle.vectors.proofs.BitsLaws.{digit, half-lt, bit-suc, bit-shr, bit-word, bit-shl, bit-below}
-
--- ---- bits of OR, and of a shift by the place itself
-
-pub bit-or : (a b c : ℕ) → bit (bitOr a b) c ≡ max (bit a c) (bit b c)
-bit-or a b c = ap (λ (n : ℕ). n % 2) (or-shr a b c ∙ or-step (a / 2 ^ c) (b / 2 ^ c)) ∙ last (bitOr (a / 2 ^ c / 2) (b / 2 ^ c / 2)) (a / 2 ^ c) (b / 2 ^ c)
-  where
-    last : (n a b : ℕ) → (n * 2 + max (a % 2) (b % 2)) % 2 ≡ max (a % 2) (b % 2)
-    last n a b = omega arith
-
--- a word of w bits has none from w up
-bit-past : (w x c : ℕ) → x < 2 ^ w → w ≤ c → bit x c ≡ 0
-bit-past w x c h l = ap (λ (n : ℕ). n % 2) (div-eq-of-lt (lt-of-lt-of-le h (pow-mono {i = w} {j = c} l)))
-
--- from j up, by the place itself
-bit-from : (a j c : ℕ) → j ≤ c → bit (a * 2 ^ j) c ≡ bit a (c - j)
-bit-from a j c l = let e : c ≡ j + (c - j) = omega arith in ap (bit (a * 2 ^ j)) e ∙ bit-shl a j (c - j)
-
-max-none : (n : ℕ) → max n 0 ≡ n
-max-none n = omega arith
+use Rattle.vectors.proofs.BitSet.{bit-or, max-none, bit-past, bit-from, bit-other}
+use Rattle.vectors.proofs.BitsLaws.{digit, half-lt, bit-suc, bit-shr, bit-word, bit-below}
 
 none-max : (n : ℕ) → max 0 n ≡ n
 none-max n = omega arith
@@ -68,9 +49,6 @@ module _ (a b s : ℕ) (s< : s < 64) where
 
 -- ---- one bit set
 
-one-bit : (i : ℕ) → 0 < i → bit 1 i ≡ 0
-one-bit i p = bit-past 1 1 i (omega arith) p
-
 module _ (x k : ℕ) (k< : k < 64) where
   pub set-here : bit (bitOr x (1 * 2 ^ k % 2 ^ 64)) k ≡ 1
   set-here =
@@ -81,11 +59,7 @@ module _ (x k : ℕ) (k< : k < 64) where
       most n = omega arith
 
   pub set-there : (i : ℕ) → i < 64 → (i ≡ k → ⊥) → bit (bitOr x (1 * 2 ^ k % 2 ^ 64)) i ≡ bit x i
-  set-there i i< n = bit-or x (1 * 2 ^ k % 2 ^ 64) i ∙ ap (max (bit x i)) (bit-word 64 (1 * 2 ^ k) i i< ∙ go (le-or-lt k i)) ∙ max-none (bit x i)
-    where
-      go : (k ≤ i) ⊎ (i < k) → bit (1 * 2 ^ k) i ≡ 0
-      go (inr m) = bit-below 1 k i m
-      go (inl m) = bit-from 1 k i m ∙ one-bit (i - k) (omega arith)
+  set-there i i< n = bit-or x (1 * 2 ^ k % 2 ^ 64) i ∙ ap (max (bit x i)) (bit-word 64 (1 * 2 ^ k) i i< ∙ bit-other k i n) ∙ max-none (bit x i)
 
 -- ---- the first 0 of a word of k bits, which is the first 1 of its complement
 

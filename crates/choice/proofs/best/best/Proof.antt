@@ -4,7 +4,7 @@ use native.Mathlib.Omega.{arith}
 use mathlib.Core.Path.{_≡_, refl, sym, ap, _∙_}
 use lib.ListN.{length}
 use Rattle.choice.proofs.Halves.{halves-low}
-use Rattle.choice.proofs.Answered.{rests-size, made-sheets, made-best}
+use Rattle.choice.proofs.Answered.{rests-size, made-sheets, made-beaten, made-best}
 use Rattle.choice.proofs.best.best.Statement.{statement}
 use Rattle.choice.proofs.best.best.Tie as tie
 
@@ -21,7 +21,7 @@ laid c = c .before .before .before .before .before .before .before
 most-requires : tie.Need-most-requires
 most-requires c κs =
     let s = c .before .before .before in
-    halves-low (s .args .sizes .now) (omega (arith, s .pre .0 .sum, s .pre .0 .few))
+    halves-low (s .args .sizes .now) (omega (arith, s .pre .0 .0 .sum, s .pre .0 .0 .few))
 
 slice-aggregate-lay : tie.Need-slice-aggregate-lay
 slice-aggregate-lay c = search needs
@@ -33,7 +33,7 @@ lay-requires : tie.Need-lay-requires
 lay-requires c κs =
     let m = c .before .before .before in
     let p = start m .pre in
-    ((record { sum = p .0 .sum; few = p .0 .few }, m .most .ensures), (p .1, refl, search needs))
+    ((record { sum = p .0 .0 .sum; few = p .0 .0 .few }, m .most .ensures), (p .1, refl, search needs))
 
 add-blocks : tie.Need-add-blocks
 add-blocks c = search needs
@@ -53,12 +53,17 @@ array-share-prefix-rests c = search needs
 slice-aggregate-best-of-2 : tie.Need-slice-aggregate-best-of-2
 slice-aggregate-best-of-2 c = rests-size (laid (c .before .before .before .before .before) .lay .ensures)
 
+mul-best-of : tie.Need-mul-best-of
+mul-best-of c = search needs
+
 best-of-requires : tie.Need-best-of-requires
 best-of-requires c κs =
     let d = c .before .before .before .before .before in
     let l = laid d in
-    let s = start (counted l) .pre .0 in
-    (s .some, s .inputs, rw (counted l .most .ensures) (made-sheets _ _ _ _ _ _ _ _ s (l .lay .ensures) (d .draw .ensures)))
+    let (s, t) = start (counted l) .pre .0 in (
+      (s .some, s .inputs, rw (counted l .most .ensures) (made-sheets _ _ _ _ _ _ _ _ s (l .lay .ensures) (d .draw .ensures))),
+      made-beaten _ _ _ _ _ _ _ _ s (l .lay .ensures) (d .draw .ensures) _ t,
+    )
 
 same-length : tie.Need-same-length
 same-length c = search needs
@@ -67,7 +72,7 @@ returns : tie.Need-returns
 returns c =
     let d = c .before .before .before .before .before .before in
     let l = laid d in
-    c .best-of .ensures ∙ made-best _ _ _ _ _ _ _ _ (start (counted l) .pre .0) (l .lay .ensures) (d .draw .ensures) _
+    c .best-of .ensures ∙ made-best _ _ _ _ _ _ _ _ (start (counted l) .pre .0 .0) (l .lay .ensures) (d .draw .ensures) _
 
 pub best-spec : {M : Type 1} → statement M
 best-spec =
@@ -83,6 +88,7 @@ best-spec =
     slice-aggregate-best-of
     array-share-prefix-rests
     slice-aggregate-best-of-2
+    mul-best-of
     best-of-requires
     same-length
     returns)

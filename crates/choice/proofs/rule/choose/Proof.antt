@@ -1,25 +1,29 @@
 -- `choice::rule::choose` meets its contract. Assumes nothing.
 use borrow.Author.Needs.{needs}
-use Prim.Native.Nat.{_-_, _*_, _≤_}
+use Prim.Native.Nat.{ℕ, _-_, _*_, _^_, _≤_, _<_}
 use native.Mathlib.Omega.{arith}
 use mathlib.Core.Path.{_≡_, refl, sym, _∙_}
-use lib.ListN.{length, take}
+use mathlib.Core.List.{map}
+use lib.ListN.{length, getD, take}
 use lib.Seq.{length-take-le}
 use Rattle.vectors.specs.Choice.{candidates}
-use Rattle.vectors.specs.Bounds.{maxVariables, maxVectors}
+use Rattle.vectors.specs.Bounds.{maxInputs, maxVariables, maxVectors}
 use Rattle.choice.specs.Best.{Searched}
-use Rattle.choice.specs.Groups.{sizesOf}
+use Rattle.choice.specs.Groups.{sizesOf, orderOf, groupsOf}
 use Rattle.choice.specs.Layout.{maxBlocks}
-use Rattle.choice.proofs.ChoiceStage.{Stage, stage-none, stage-more, stage-stop, stage-end}
+use Rattle.choice.specs.Ties.{Ties}
+use Rattle.choice.proofs.ChoiceStage.{Stage, stage-none, stage-more, stage-ties, stage-stop, stage-end}
+use Rattle.choice.proofs.ChoiceTies.{best-sound, ties-none, ties-words}
 use Rattle.choice.proofs.rule.choose.Statement.{statement}
 use Rattle.choice.proofs.rule.choose.Tie as tie
 
 abbrev Inv-loop : tie.InvT-loop
-Inv-loop vectors n degree words₀ items₀ variables₀ groups₀ p₀ words items variables groups p =
+Inv-loop vectors n degree words₀ items₀ variables₀ groups₀ tied₀ p₀ words items variables groups tied p =
     (length words ≡ 1024) × (length items ≡ 64 * maxBlocks) × Stage vectors (candidates n degree) groups variables p
+    × Ties tied (λ i. getD vectors i 0) (groupsOf groups)
 
 abbrev μ-loop : tie.MeasureT-loop
-μ-loop vectors n degree words₀ items₀ variables₀ groups₀ p₀ words items variables groups p = maxVariables - p
+μ-loop vectors n degree words₀ items₀ variables₀ groups₀ tied₀ p₀ words items variables groups tied p = maxVariables - p
 
 -- the call's start, and the turn's, from where the words are gathered
 abbrev start : tie.At-loop Inv-loop μ-loop → tie.Start Inv-loop μ-loop
@@ -47,6 +51,13 @@ searched c =
     let e = length-take-le (l .loop .groups .members) (c .gather .last .1 .1 .0) (room c) in
     record { some = p .0; inputs = p .1; few = omega (arith, low l, e); sum = s .cuts .sum ∙ length-take-le _ (l .loop .groups .order) (s .room) ∙ sym e }
 
+gathered : (c : tie.After-gather Inv-loop μ-loop)
+    → let l = turn c in
+    take (l .loop .groups .members) (c .gather .last .1 .1 .0) ≡ map (λ i. getD (start l .args .vectors .now) i 0) (orderOf (l .loop .groups))
+gathered c =
+    let o = length-take-le _ (turn c .loop .groups .order) (turn c .loop .inv .2 .shape .room) in
+    rw o at (c .gather .ensures)
+
 blank-variables-requires : tie.Need-blank-variables-requires Inv-loop μ-loop
 blank-variables-requires c κs = search needs
 
@@ -54,7 +65,8 @@ all-requires : tie.Need-all-requires Inv-loop μ-loop
 all-requires c κs = c .before .before .pre .2
 
 loop-holds : tie.Need-loop-holds Inv-loop μ-loop
-loop-holds c = (refl, refl, stage-none _ _ _ _ (c .before .«blank-variables» .ensures) (c .all .ensures))
+loop-holds c =
+    (refl, refl, stage-none _ _ _ _ (c .before .«blank-variables» .ensures) (c .all .ensures), ties-none (λ i. getD (c .before .before .before .args .vectors .now) i 0) (groupsOf (c .all .result)))
 
 returns : tie.Need-returns Inv-loop μ-loop
 returns c = stage-stop _ _ (c .before .before .before .loop .inv .2) (c .if1 .taken)
@@ -91,7 +103,8 @@ slice-aggregate-best-3 c = search needs
 best-requires : tie.Need-best-requires Inv-loop μ-loop
 best-requires c κs =
     let g = c .before .before .before .before in
-    (searched g, turn g .loop .inv .1)
+    let l = turn g .loop in
+    ((searched g, rw (gathered g) (ties-words _ _ (sizesOf (l .groups)) (orderOf (l .groups)) (l .inv .3))), l .inv .1)
 
 mask-requires : tie.Need-mask-requires Inv-loop μ-loop
 mask-requires c κs = search needs
@@ -100,6 +113,9 @@ refined-requires : tie.Need-refined-requires Inv-loop μ-loop
 refined-requires c κs =
     let l = turn (c .before .before .before .before .before .before .before) in
     (start l .pre .2, l .loop .inv .2 .shape)
+
+later-requires : tie.Need-later-requires Inv-loop μ-loop
+later-requires c κs = search needs
 
 mul-variables : tie.Need-mul-variables Inv-loop μ-loop
 mul-variables c = search needs
@@ -115,15 +131,18 @@ loop-less c = search needs
 
 loop-again : tie.Need-loop-again Inv-loop μ-loop
 loop-again c =
-    let b = c .before .before .before in
+    let b = c .before .before .before .before in
     let g = b .before .before .before .before .before in
     let t = g .before .before .before .before .before .before .before in
     let l = t .before in
-    let o = length-take-le _ (l .loop .groups .order) (l .loop .inv .2 .shape .room) in (
+    let s = start l in
+    let fits : (i : ℕ) → getD (s .args .vectors .now) i 0 < 2 ^ maxInputs = λ i. omega (arith, l .before .before .before .shared-slice-known .given i) in (
       g .gather .kept .1 .1 .0 ∙ l .loop .inv .0,
-      b .best .kept .1 .1 .1 .1 .0 ∙ l .loop .inv .1,
+      b .best .kept .1 .1 .1 .1 .1 .0 ∙ l .loop .inv .1,
       stage-more (l .loop .inv .2) _ (b .best .result) _ _ (t .loop-test .taken) (g .before .before .before .before .before .if1 .left)
-          (λ i. omega (arith, l .before .before .before .shared-slice-known .given i)) (rw o at (g .gather .ensures)) (b .best .ensures) (c .before .mask .ensures) (c .refined .ensures),
+          fits (gathered g) (b .best .ensures) (c .before .before .mask .ensures) (c .before .refined .ensures),
+      stage-ties (l .loop .inv .2) (s .args .n) _ _ (b .best .result) _ _ (s .pre .1) (best-sound _ _ _ _ (s .pre .0) (b .best .ensures))
+          fits (c .before .before .mask .ensures) (c .later .ensures) (c .before .refined .ensures) (l .loop .inv .3),
     )
 
 returns-2 : tie.Need-returns-2 Inv-loop μ-loop
@@ -151,6 +170,7 @@ choose-spec =
     best-requires
     mask-requires
     refined-requires
+    later-requires
     mul-variables
     array-set-from-variables
     add-p
