@@ -9,7 +9,7 @@ use lib.Bits.{bitXor}
 use lib.Count.{ones}
 use lib.ListN.{length, getD, replicate, take}
 use lib.Seq.{getD-take, length-take-le}
-use Rattle.lists.specs.Cut.{cut, total}
+use Rattle.lists.specs.Cut.{cut}
 use Rattle.lists.proofs.Members.{all-map}
 use Rattle.lists.proofs.Parts.{part-take}
 use Rattle.vectors.specs.declared.Kind.{Kind}
@@ -31,7 +31,7 @@ use Rattle.choice.proofs.Halves.{halves, halves-low}
 use Rattle.choice.proofs.Laid.{ends-few}
 use Rattle.choice.proofs.Blocks.{blocks-gain, blocks-count, pairs-high}
 use Rattle.choice.proofs.Agree.{best-gains, gains-words}
-use Rattle.choice.proofs.Order.{inputs-in, kindOf, kind-first, kind-second, kind-sound}
+use Rattle.choice.proofs.Order.{inputs-in, kindOf, kind-sound}
 use Rattle.choice.proofs.Tying.{gain-pair, ties-beaten, beaten-same}
 
 -- ---- tallies that are the same where they are looked at

@@ -1,9 +1,8 @@
 -- The variables chosen: where the rule is not made, and what a caller knows of them where it is. Assumes nothing.
 use Prim.Native.Nat.{ℕ, _-_, _≤_, _<_}
-use native.Mathlib.Omega.{arith}
 use mathlib.Core.Path.{_≡_, refl, sym, ap, _∙_}
 use mathlib.Core.Bool.{Bool, true, false, cond, _&&_, and-false}
-use mathlib.Core.List.{List, [], _∷_, _++_, map, map-id}
+use mathlib.Core.List.{List, map, map-id}
 use borrow.Author.Tests.{lt-ltb, le-leb, lt-leb}
 use lib.Dec.{leb, ltb}
 use lib.ListN.{length, take, length-map}
@@ -15,7 +14,7 @@ use Rattle.vectors.specs.Variable.{kindsOf}
 use Rattle.vectors.specs.Choice.{candidates, choose, apart}
 use Rattle.vectors.proofs.Choice.Steps.{choice-few}
 use Rattle.choice.specs.declared.Chosen.{Chosen}
-use Rattle.choice.specs.Choosing.{rowVariable, placed, chosenAs, chosenBy, noneChosen, choosable, chosenIn}
+use Rattle.choice.specs.Choosing.{rowVariable, placed, chosenBy, noneChosen, choosable, chosenIn}
 
 -- ---- the guard
 

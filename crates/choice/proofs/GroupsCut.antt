@@ -1,11 +1,10 @@
--- Groups as sizes and an order: the list cut, and a loop that walks along the groups. Assumes nothing.
+-- Groups as sizes and an order: the list cut. Assumes nothing.
 use Prim.Native.Nat.{ℕ, zero, suc, _+_, _-_, _≤_, _<_}
 use native.Mathlib.Omega.{arith}
-use native.Mathlib.Numerals.{add-one}
 use mathlib.Core.Path.{_≡_, refl, sym, ap, ap₂, _∙_}
 use mathlib.Core.List.{List, [], _∷_, map, flatten}
-use lib.ListN.{length, getD, take, drop, length-append, length-drop, drop-of-length-le}
-use lib.Seq.{take-at, drop-at, drop-cons, drop-drop, length-take-le}
+use lib.ListN.{length, take, drop, length-append, length-drop}
+use lib.Seq.{take-at, drop-at, length-take-le}
 use Rattle.lists.proofs.Members.{All}
 use Rattle.lists.proofs.Alls.{all-take, all-drop, all-map, all-flatten}
 use Rattle.vectors.proofs.Choice.Groups.{members}
@@ -73,46 +72,3 @@ pub cut-length : (ss l : List ℕ) → length (cut ss l) ≡ length ss
 unfolding cut
 cut-length [] l = refl
 cut-length (s ∷ ss) l = ap suc (cut-length ss (drop s l))
-
--- ---- a loop along the groups: the next is group g, and its members begin at from
-
--- the part of a list that is lent as from..to
-abbrev pub lent : ℕ → ℕ → List ℕ → List ℕ
-lent from to l = take (to - from) (drop from l)
-
-pub record Walk (sizes order : List ℕ) (from g : ℕ) : Type 0 where
-  pub within : g ≤ length sizes
-  pub sum : from + total (drop g sizes) ≡ length order
-
--- the groups still to come
-abbrev pub rest : List ℕ → List ℕ → ℕ → ℕ → List (List ℕ)
-rest sizes order from g = cut (drop g sizes) (drop from order)
-
-pub walk-start : (sizes order : List ℕ) → total sizes ≡ length order → Walk sizes order 0 0
-walk-start sizes order h = record { within = omega arith; sum = omega arith }
-
-pub walk-end : (sizes order : List ℕ) (from g : ℕ) → length sizes ≤ g → rest sizes order from g ≡ []
-unfolding cut
-walk-end sizes order from g h = rw (drop-of-length-le sizes h)
-
-module _ {sizes order : List ℕ} {from g : ℕ} (w : Walk sizes order from g) (d : ℕ) (h : g < length sizes) where
-  total-next : total (drop g sizes) ≡ getD sizes g d + total (drop (suc g) sizes)
-  unfolding total
-  total-next = ap total (drop-cons sizes g d h)
-
-  pub walk-fits : from + getD sizes g d ≤ length order
-  walk-fits = omega (arith, total-next, w .sum)
-
-  pub walk-next : Walk sizes order (from + getD sizes g d) (g + 1)
-  walk-next = record { within = omega arith; sum = rw (add-one g) (omega (arith, total-next, w .sum)) }
-
-  pub walk-cut : rest sizes order from g ≡ lent from (from + getD sizes g d) order ∷ rest sizes order (from + getD sizes g d) (g + 1)
-  unfolding cut
-  walk-cut =
-      let e : from + getD sizes g d - from ≡ getD sizes g d = omega arith in
-      ap (λ (ss : List ℕ). cut ss (drop from order)) (drop-cons sizes g d h) ∙ rw (add-one g, e, drop-drop (getD sizes g d) from order)
-
-  pub walk-length : length (lent from (from + getD sizes g d) order) ≡ getD sizes g d
-  walk-length =
-      let e : from + getD sizes g d - from ≡ getD sizes g d = omega arith in
-      rw e (length-take-le (getD sizes g d) (drop from order) (omega (arith, walk-fits, length-drop from order)))

@@ -18,7 +18,7 @@ use Rattle.vectors.proofs.Choice.Groups.{part, pushed, refined, members, part-y
 use Rattle.choice.specs.declared.groups.Extent.{Extent}
 use Rattle.vectors.specs.Bounds.{maxVectors}
 use Rattle.choice.specs.Groups.{cut, total, Listed, Holds, Room, Adds}
-use Rattle.choice.proofs.GroupsCut.{Walk, rest, lent, walk-length, walk-start, walk-end, walk-next, walk-cut}
+use Rattle.lists.proofs.Walk.{Walk, rest, lent, walk-length, walk-start, walk-end, walk-next, walk-cut}
 
 -- ---- the members of one value, listed from place at on: those before i are looked at
 

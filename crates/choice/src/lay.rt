@@ -18,7 +18,7 @@ pub(crate) struct Laid {
 }
 
 // The words, from place at on.
-pub(crate) fn copy(from: &[u64], to: &mut [u64], at: usize)
+fn copy(from: &[u64], to: &mut [u64], at: usize)
     requires { ⌜ at + length (now from) ≤ length (now to) ⌝ }
     ensures { λ r. ⌜ now (to .exit) ≡ sets (now (to .entry)) at (now (from .entry)) ⌝ }
 {

@@ -8,7 +8,7 @@ ghost use Rattle.vectors.specs.Bits.{input};
 ghost use Rattle.vectors.specs.Bounds.{maxInputs};
 ghost use Rattle.vectors.specs.Choice.{candidates, bestOf};
 ghost use Rattle.choice.specs.Judged.{Sheet, Sheets, gainAt, leftBy};
-ghost use Rattle.choice.specs.Search.{rank, betterOf, bestRow, bestRows, noneBest, Above, Beaten, RowIs, rowsOf};
+ghost use Rattle.choice.specs.Search.{rank, betterOf, bestRows, noneBest, Above, Beaten, RowIs, rowsOf};
 use crate::judge;
 use vectors::Kind;
 

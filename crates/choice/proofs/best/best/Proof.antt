@@ -1,7 +1,7 @@
 -- `choice::best::best` meets its contract. Assumes nothing.
 use borrow.Author.Needs.{needs}
 use native.Mathlib.Omega.{arith}
-use mathlib.Core.Path.{_≡_, refl, sym, ap, _∙_}
+use mathlib.Core.Path.{refl, sym, ap, _∙_}
 use lib.ListN.{length}
 use Rattle.choice.proofs.Halves.{halves-low}
 use Rattle.choice.proofs.Answered.{rests-size, made-sheets, made-beaten, made-best}

@@ -1,10 +1,5 @@
 -- `choice::rule::none` meets its contract. Assumes nothing.
 use borrow.Author.Needs.{needs}
-use mathlib.Core.Path.{ap}
-use mathlib.Core.Bool.{false}
-use mathlib.Core.List.{List}
-use Rattle.vectors.specs.declared.Variable.{Variable}
-use Rattle.choice.specs.declared.Chosen.{Chosen}
 use Rattle.choice.proofs.rule.none.Statement.{statement}
 use Rattle.choice.proofs.rule.none.Tie as tie
 

@@ -1,5 +1,4 @@
 -- `choice::search::rows_of` meets its contract. Assumes nothing.
-use mathlib.Core.Path.{sym}
 use borrow.Author.Tests.{eq-eqb, ne-eqb}
 use Rattle.choice.proofs.search.rows_of.Statement.{statement}
 use Rattle.choice.proofs.search.rows_of.Tie as tie
