@@ -27,12 +27,8 @@ pub(crate) fn pack(mask: u64, x: u64) -> u64
     while m != 0 {
         // How far the run moves down.
         let gap = u64::trailing_zeros(m) as u64 - k;
-        let below = m | (m - 1);
-        // The run reaches the top of the word.
-        if below == 0xffffffffffffffff {
-            return w + ((x & m) >> gap);
-        }
-        let above = below + 1;
+        // The run carried over; past the top it is 0.
+        let above = std::num::wrapping_add_u64(m | (m - 1), 1);
         let rest = m & above;
         w = w + ((x & (m - rest)) >> gap);
         k = u64::trailing_zeros(above) as u64 - gap;

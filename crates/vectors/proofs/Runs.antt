@@ -4,11 +4,11 @@ use native.Mathlib.Nat.{mod-one, zero-lt-suc, pow-suc, le-trans, div-one, one-mu
 use native.Mathlib.Numerals.{add-one}
 use native.Mathlib.Omega.{arith}
 use mathlib.Core.Path.{_≡_, refl, sym, ap, ap₂, _∙_}
-use lib.Bits.{bitAnd, bitOr, and-step, or-step, and-self, or-self, and-comm, and-shifted, and-high}
+use lib.Bits.{bitAnd, bitOr, and-step, or-step, and-self, or-self, and-high}
 use lib.Pow.{pow-add, pow-lt, shl-shr, mod-pow-add}
 use lib.Count.{trailingZeros, trailing-le}
 use Rattle.vectors.specs.Word.{packBit, packIn}
-use Rattle.vectors.proofs.BitsLaws.{digit, half-lt, shr-suc}
+use Rattle.vectors.proofs.BitsLaws.{digit, half-lt, shr-suc, and-word}
 use Rattle.vectors.proofs.Packing.{pack-even, pack-zero}
 
 abbrev pub zerosOf : ℕ → ℕ → ℕ
@@ -19,7 +19,7 @@ abbrev pub above : ℕ → ℕ
 above m = bitOr m (m - 1) + 1
 
 -- the mask without its lowest run
-abbrev pub rest : ℕ → ℕ
+abbrev rest : ℕ → ℕ
 rest m = bitAnd m (above m)
 
 -- ---- by the lowest digit
@@ -71,6 +71,16 @@ zeros-twice d n =
 zeros-odd : (d n : ℕ) → n % 2 ≡ 1 → zerosOf (suc d) n ≡ 0
 unfolding trailingZeros
 zeros-odd d n e = rw e
+
+-- of a word of d digits, only those count
+zeros-word : (d n : ℕ) → zerosOf d (n % 2 ^ d) ≡ zerosOf d n
+unfolding trailingZeros
+zeros-word zero n = refl
+zeros-word (suc d) n =
+    let e : n % 2 ^ suc d ≡ n / 2 % 2 ^ d * 2 + n % 2 = ap (λ (k : ℕ). n % 2 ^ k) (sym (add-one d)) ∙ mod-pow-add n d 1 in
+    let a : n % 2 ^ suc d % 2 ≡ n % 2 = omega (arith, e) in
+    let b : n % 2 ^ suc d / 2 ≡ n / 2 % 2 ^ d = omega (arith, e) in
+    rw (a, b, zeros-word d (n / 2))
 
 pack-twice : (d m x : ℕ) → packIn (suc d) (m * 2) x ≡ packIn d m (x / 2)
 pack-twice d m x = ap (λ (n : ℕ). packIn (suc d) n x) (mul-comm m 2) ∙ pack-even d m x
@@ -198,12 +208,13 @@ moved x n k g =
 pub turn-none : (w k m x : ℕ) → m ≡ 0 → 2 ^ k * packIn w m x ≡ 0
 turn-none w k m x e = ap (λ (n : ℕ). 2 ^ k * packIn w n x) e ∙ ap (λ (n : ℕ). 2 ^ k * n) (pack-zero w x) ∙ mul-zero (2 ^ k)
 
-abbrev pub TurnAt : ℕ → ℕ → ℕ → ℕ → Type 0
-TurnAt w k m x = Turn w k m x (zerosOf w (above m)) (rest m) (zerosOf w m - k)
+-- a is the run carried over, in a word: 0 where the run reaches the top
+abbrev pub TurnAt : ℕ → ℕ → ℕ → ℕ → ℕ → Type 0
+TurnAt w k m x a = Turn w k m x (zerosOf w a) (bitAnd m a) (zerosOf w m - k)
 
 module _ (w k m x : ℕ) (p : 0 < m) (h : m < 2 ^ w) (l : k ≤ zerosOf w m) where
-  pub turn : TurnAt w k m x
-  turn =
+  turn-above : TurnAt w k m x (above m)
+  turn-above =
       let s = lowest w m p h in
       let z = zerosOf w m in
       let t = zerosOf w (above m) in
@@ -223,12 +234,5 @@ module _ (w k m x : ℕ) (p : 0 < m) (h : m < 2 ^ w) (l : k ≤ zerosOf w m) whe
             ∙ ap₂ (λ (a i : ℕ). a + 2 ^ i * packIn w (rest m) x) (sym v) j;
       }
 
-  -- a run that reaches the top is all that is left
-  pub turn-full : above m ≡ 2 ^ w → 2 ^ k * packIn w m x ≡ bitAnd x m / 2 ^ (zerosOf w m - k)
-  turn-full e =
-      let i = zerosOf w (above m) - (zerosOf w m - k) in
-      let r : rest m ≡ 0 = ap (bitAnd m) e ∙ and-comm m (2 ^ w) ∙ ap (λ (a : ℕ). bitAnd a m) (sym (one-mul (2 ^ w))) ∙ and-shifted 1 w m h in
-      turn .adds
-      ∙ ap (λ (b : ℕ). bitAnd x (m - b) / 2 ^ (zerosOf w m - k) + 2 ^ i * packIn w b x) r
-      ∙ ap₂ (λ (a b : ℕ). bitAnd x a / 2 ^ (zerosOf w m - k) + b) (sub-zero m) (turn-none w i 0 x refl)
-      ∙ add-zero _
+  pub turn : (a : ℕ) → a ≡ above m % 2 ^ w → TurnAt w k m x a
+  turn a e = rw (e, zeros-word w (above m), and-word w m (above m) h) turn-above

@@ -1,13 +1,12 @@
 -- `unit::word::pack` meets its contract: what is packed, and what is left of the mask, make the whole. Assumes nothing.
 use borrow.Author.Needs.{needs}
-use mathlib.Core.Path.{_≡_, ap}
-use Prim.Native.Nat.{ℕ, _+_, _-_, _*_, _/_, _^_, _≤_, _<_, zero-le}
-use lib.Bits.{bitAnd, or-lt}
+use mathlib.Core.Path.{_≡_}
+use Prim.Native.Nat.{_+_, _*_, _^_, _≤_, _<_, zero-le}
 use lib.Count.{trailing-le}
 use native.Mathlib.Omega.{arith}
 use Rattle.vectors.specs.Word.{packIn}
 use Rattle.vectors.proofs.Packing.{pack-lt}
-use Rattle.vectors.proofs.Runs.{TurnAt, turn, turn-full, turn-none, zerosOf, above}
+use Rattle.vectors.proofs.Runs.{TurnAt, turn, turn-none, zerosOf}
 use Rattle.unit.proofs.word.pack.Statement.{statement}
 use Rattle.unit.proofs.word.pack.Tie as tie
 
@@ -17,14 +16,11 @@ Inv-loop mask x w₀ k₀ m₀ w k m = (m < 2 ^ 64) × (k ≤ zerosOf 64 m) × (
 abbrev μ-loop : tie.MeasureT-loop
 μ-loop mask x w₀ k₀ m₀ w k m = m
 
-turned : (c : tie.In-loop Inv-loop μ-loop) → TurnAt 64 (c .before .loop .k) (c .before .loop .m) (c .before .before .args .x)
-turned c = turn 64 _ _ _ (omega arith) (c .before .loop .inv .0) (c .before .loop .inv .1)
-
-full : (c : tie.Then1 Inv-loop μ-loop) → let l = c .before .before in
-    2 ^ l .loop .k * packIn 64 (l .loop .m) (l .before .args .x) ≡ bitAnd (l .before .args .x) (l .loop .m) / 2 ^ (zerosOf 64 (l .loop .m) - l .loop .k)
-full c =
+turned : (c : tie.After-wrapping-add-u64 Inv-loop μ-loop) → let l = c .before .before in
+    TurnAt 64 (l .loop .k) (l .loop .m) (l .before .args .x) (c .wrapping-add-u64 .result)
+turned c =
     let l = c .before .before in
-    turn-full 64 _ _ _ (omega arith) (l .loop .inv .0) (l .loop .inv .1) (ap (λ (n : ℕ). n + 1) (c .if1 .taken))
+    turn 64 _ _ _ (omega arith) (l .loop .inv .0) (l .loop .inv .1) _ (c .wrapping-add-u64 .ensures)
 
 loop-holds : tie.Need-loop-holds Inv-loop μ-loop
 loop-holds c = (c .fits .mask .fits, zero-le, omega arith)
@@ -35,51 +31,40 @@ cast-gap c = omega (arith, trailing-le 64 (c .before .loop .m))
 sub-gap : tie.Need-sub-gap Inv-loop μ-loop
 sub-gap c = c .before .loop .inv .1
 
-sub-below : tie.Need-sub-below Inv-loop μ-loop
-sub-below c = search needs
+sub-wrapping-add-u64 : tie.Need-sub-wrapping-add-u64 Inv-loop μ-loop
+sub-wrapping-add-u64 c = search needs
 
-shr-result : tie.Need-shr-result Inv-loop μ-loop
-shr-result c = turned (c .before) .start
-
-add-result : tie.Need-add-result Inv-loop μ-loop
-add-result c = omega (arith, full c, c .before .before .loop .inv .2, pack-lt 64 (c .before .before .before .args .mask) (c .before .before .before .args .x))
-
-returns : tie.Need-returns Inv-loop μ-loop
-returns c = omega (arith, full c, c .before .before .loop .inv .2)
-
-add-above : tie.Need-add-above Inv-loop μ-loop
-add-above c =
-    let m = c .before .before .loop .m in
-    omega (arith, or-lt 64 m (m - 1) (c .before .before .loop .inv .0) (omega (arith, c .before .before .loop .inv .0)), c .if1 .left)
+wrapping-add-u64-requires : tie.Need-wrapping-add-u64-requires Inv-loop μ-loop
+wrapping-add-u64-requires c κs = search needs
 
 sub-w : tie.Need-sub-w Inv-loop μ-loop
-sub-w c = omega (arith, turned (c .before) .less)
+sub-w c = omega (arith, turned c .less)
 
 shr-w : tie.Need-shr-w Inv-loop μ-loop
-shr-w c = turned (c .before) .start
+shr-w c = turned c .start
 
 add-w : tie.Need-add-w Inv-loop μ-loop
 add-w c =
     let l = c .before .before in
-    omega (arith, turned (c .before) .adds, l .loop .inv .2, pack-lt 64 (l .before .args .mask) (l .before .args .x))
+    omega (arith, turned c .adds, l .loop .inv .2, pack-lt 64 (l .before .args .mask) (l .before .args .x))
 
 cast-k : tie.Need-cast-k Inv-loop μ-loop
-cast-k c = omega (arith, trailing-le 64 (above (c .before .before .loop .m)))
+cast-k c = omega (arith, trailing-le 64 (c .wrapping-add-u64 .result))
 
 sub-k : tie.Need-sub-k Inv-loop μ-loop
-sub-k c = turned (c .before) .ahead
+sub-k c = turned c .ahead
 
 loop-less : tie.Need-loop-less Inv-loop μ-loop
-loop-less c = turned (c .before) .less
+loop-less c = turned c .less
 
 loop-again : tie.Need-loop-again Inv-loop μ-loop
 loop-again c =
     let l = c .before .before in
-    let t = turned (c .before) in
+    let t = turned c in
     (omega (arith, t .less, l .loop .inv .0), t .kept, omega (arith, t .adds, l .loop .inv .2))
 
-returns-2 : tie.Need-returns-2 Inv-loop μ-loop
-returns-2 c = omega (arith, turn-none 64 (c .before .loop .k) (c .before .loop .m) (c .before .before .args .x) (omega arith), c .before .loop .inv .2)
+returns : tie.Need-returns Inv-loop μ-loop
+returns c = omega (arith, turn-none 64 (c .before .loop .k) (c .before .loop .m) (c .before .before .args .x) (omega arith), c .before .loop .inv .2)
 
 pub pack-spec : {M : Type 1} → statement M
 pack-spec =
@@ -90,11 +75,8 @@ pack-spec =
     loop-holds
     cast-gap
     sub-gap
-    sub-below
-    shr-result
-    add-result
-    returns
-    add-above
+    sub-wrapping-add-u64
+    wrapping-add-u64-requires
     sub-w
     shr-w
     add-w
@@ -102,4 +84,4 @@ pack-spec =
     sub-k
     loop-less
     loop-again
-    returns-2)
+    returns)
