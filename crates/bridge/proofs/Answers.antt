@@ -1,20 +1,25 @@
 -- What the calls of the boundary give, from what the calls of the unit give. Assumes nothing.
-use Prim.Native.Nat.{ℕ, _<_}
+use Prim.Native.Nat.{ℕ, _%_, _^_, _<_}
 use native.Mathlib.Omega.{arith}
 use mathlib.Core.Path.{_≡_, refl, sym, ap, ap₂, _∙_}
 use mathlib.Core.Bool.{Bool, true, false, cond}
 use mathlib.Core.List.{List, map}
 use Rattle.vectors.specs.declared.Variable.{Variable}
-use Rattle.unit.specs.declared.Built.{Built}
-use Rattle.unit.specs.declared.Found.{Found}
-use Rattle.unit.specs.declared.Recovered.{Recovered}
-use Rattle.unit.specs.declared.Unit.{Unit as Igu}
-use Rattle.unit.specs.Build.{Tables, Outcome, after, lent, buildChosen, buildGiven}
-use Rattle.unit.specs.Lookup.{notFound, lookupOf}
-use Rattle.unit.specs.Recover.{notRecovered, recoverOf}
-use Rattle.unit.proofs.Places.{placeLimit, found-index}
+use Rattle.build.specs.declared.Built.{Built}
+use Rattle.lookup.specs.declared.Found.{Found}
+use Rattle.recover.specs.declared.Recovered.{Recovered}
+use Rattle.record.specs.declared.Record.{Record}
+use Rattle.record.specs.Tables.{Tables, lent}
+use Rattle.build.specs.Build.{Outcome, after, buildChosen, buildGiven}
+use Rattle.lookup.specs.Lookup.{notFound, lookupOf}
+use Rattle.recover.specs.Recover.{notRecovered, recoverOf}
+use Rattle.build.proofs.Places.{placeLimit}
+use Rattle.lookup.proofs.Indices.{found-index}
 use Rattle.bridge.specs.Flat.{variableAt, flatOf, variableWords, unitAt, allInRange}
-use Rattle.bridge.specs.Calls.{answer, left, leftBy, buildCall, givenCall, foundIn, recoveredIn, lookupCall}
+use Rattle.many.specs.declared.Many.{Many}
+use Rattle.many.specs.Lookups as many
+use Rattle.many.proofs.Keys.{many-same}
+use Rattle.bridge.specs.Calls.{answer, left, leftBy, indexed, manyCall, buildCall, givenCall, foundIn, recoveredIn, lookupCall}
 
 -- ---- the builds
 
@@ -47,20 +52,38 @@ module _ (words : List ℕ) (t : Tables) (x : ℕ) where
   unfolding lookupCall foundIn
   found-unread e = sym (ap (λ (b : Bool). answer (foundBy b .refusal) (foundBy b .index)) e)
 
-  pub found-read : (u : Igu) (f : Found) (a : ℕ) → allInRange (variableWords words) ≡ true → u ≡ unitAt words → f ≡ lookupOf u t x → a ≡ answer (f .refusal) (f .index)
+  pub found-read : (u : Record) (f : Found) (a : ℕ) → allInRange (variableWords words) ≡ true → u ≡ unitAt words → f ≡ lookupOf u t x → a ≡ answer (f .refusal) (f .index)
       → a ≡ lookupCall words t x
   unfolding lookupCall foundIn
   found-read u f a e v l i =
-      let same : f ≡ foundBy (allInRange (variableWords words)) = l ∙ ap (λ (u : Igu). lookupOf u t x) v ∙ sym (ap foundBy e) in
+      let same : f ≡ foundBy (allInRange (variableWords words)) = l ∙ ap (λ (u : Record). lookupOf u t x) v ∙ sym (ap foundBy e) in
       i ∙ ap (λ (f : Found). answer (f .refusal) (f .index)) same
 
   pub recovered-unread : allInRange (variableWords words) ≡ false → notRecovered 14 ≡ recoveredIn words t x
   unfolding recoveredIn
   recovered-unread e = sym (ap recoveredBy e)
 
-  pub recovered-read : (u : Igu) (r : Recovered) → allInRange (variableWords words) ≡ true → u ≡ unitAt words → r ≡ recoverOf u t x → r ≡ recoveredIn words t x
+  pub recovered-read : (u : Record) (r : Recovered) → allInRange (variableWords words) ≡ true → u ≡ unitAt words → r ≡ recoverOf u t x → r ≡ recoveredIn words t x
   unfolding recoveredIn
-  recovered-read u r e v l = l ∙ ap (λ (u : Igu). recoverOf u t x) v ∙ sym (ap recoveredBy e)
+  recovered-read u r e v l = l ∙ ap (λ (u : Record). recoverOf u t x) v ∙ sym (ap recoveredBy e)
 
-pub index-fits : (u : Igu) (t : Tables) (x : ℕ) (f : Found) → f ≡ lookupOf u t x → f .index < 65536
+pub index-fits : (u : Record) (t : Tables) (x : ℕ) (f : Found) → f ≡ lookupOf u t x → f .index < 65536
 index-fits u t x f e = omega (arith, found-index u t x, ap (λ (f : Found). f .index) e)
+
+-- ---- many keys
+
+module _ (words : List ℕ) (t : Tables) (keys old : List ℕ) (m : Many) (l : List ℕ) (a : ℕ) (i : a ≡ answer (m .refusal) (m .place % 2 ^ 56)) where
+  many-is : (look : ℕ → Found) → ((x : ℕ) → look x ≡ foundIn words t x) → many.left m l ≡ many.lookupMany look keys old → indexed a l ≡ manyCall words t keys old
+  unfolding manyCall
+  many-is look e f =
+      ap (λ (b : ℕ). indexed b l) i
+      ∙ ap (λ (r : many.Left). indexed (answer (r .answer .refusal) (r .answer .place % 2 ^ 56)) (r .indices)) (f ∙ many-same look (foundIn words t) e keys old)
+
+  pub many-unread : allInRange (variableWords words) ≡ false → many.left m l ≡ many.lookupMany (λ x. notFound 14) keys old → indexed a l ≡ manyCall words t keys old
+  unfolding foundIn
+  many-unread e = many-is (λ x. notFound 14) (λ x. sym (ap (foundBy words t x) e))
+
+  pub many-read : (u : Record) → allInRange (variableWords words) ≡ true → u ≡ unitAt words → many.left m l ≡ many.lookupMany (lookupOf u t) keys old
+      → indexed a l ≡ manyCall words t keys old
+  unfolding foundIn
+  many-read u e v = many-is (lookupOf u t) (λ x. ap (λ (u : Record). lookupOf u t x) v ∙ sym (ap (foundBy words t x) e))

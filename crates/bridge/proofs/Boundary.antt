@@ -10,19 +10,20 @@ use mir.Val.{SFits}
 use Rattle.vectors.specs.declared.Kind.{Kind}
 use Rattle.vectors.specs.declared.Part.the-variants.{Row, Column}
 use Rattle.vectors.specs.declared.Variable.{Variable}
-use Rattle.vectors.specs.Variable.{kindsOf}
-use Rattle.unit.specs.Bounds.{maxVectors, maxVariables}
-use Rattle.unit.specs.Refusals.{Refusal}
-use Rattle.unit.specs.Build.{Tables, Outcome, outcome, chosenRefusal, givenRefusal, buildChosen, buildGiven}
-use Rattle.unit.specs.Lookup.{found, lookupOf}
-use Rattle.unit.specs.Recover.{recovered, recoverOf}
-use Rattle.unit.specs.Demand2.{indexOf, Demand2}
-use Rattle.unit.specs.Demand3.{chosenKinds}
-use Rattle.unit.specs.Record.{blankVariable, variablesOf, log2Up, excessOf, unitOf, rowsShare}
-use Rattle.unit.proofs.Demands.Finish.{outcome-accepted}
-use Rattle.unit.proofs.Demands.Passed.{Passed, chosen-passed, given-passed}
+use Rattle.vectors.specs.Variable.{kindsOf, blankVariable}
+use Rattle.vectors.specs.Bounds.{maxVectors, maxVariables}
+use Rattle.build.specs.declared.Refusal.{Refusal}
+use Rattle.record.specs.Tables.{Tables}
+use Rattle.build.specs.Build.{Outcome, outcome, chosenRefusal, givenRefusal, buildChosen, buildGiven, rowsShare, chosenKinds}
+use Rattle.lookup.specs.Lookup.{found, lookupOf}
+use Rattle.recover.specs.Recover.{recovered, recoverOf}
+use Rattle.record.specs.Holds.{indexOf}
+use Rattle.unit.specs.Demand2.{Demand2}
+use Rattle.record.specs.Record.{variablesOf, log2Up, excessOf, recordOf}
+use Rattle.build.proofs.Holding.Ends.{outcome-accepted}
+use Rattle.build.proofs.Holding.Passed.{Passed, chosen-passed, given-passed}
 use Rattle.unit.proofs.Demand2.{chosen-demand-2, given-demand-2}
-use Rattle.unit.proofs.Excess.{log2-le, difference}
+use Rattle.record.proofs.Excesses.{log2-le, difference}
 use Rattle.bridge.specs.Flat.{variableAt, variableWords, allInRange, flatOf, unitAt}
 use Rattle.bridge.specs.Calls.{answer, leftBy, buildCall, givenCall}
 use Rattle.bridge.specs.Boundary.{Exact}
@@ -50,7 +51,7 @@ module _ (n n1 : ℕ) (second : Refusal) (ks : List Kind) (cells : ℕ) (vs : Li
   o = outcome r n n1 ks cells vs t
 
   left-carried : (unitAt (flatOf (o .built .unit)) ≡ o .built .unit) × (allInRange (variableWords (flatOf (o .built .unit))) ≡ true)
-  unfolding unitOf
+  unfolding recordOf
   left-carried =
       let a = outcome-accepted n n1 ks cells vs t r z in
       let p = pass (a .passed) in

@@ -12,19 +12,20 @@ use lib.Seq.{take-append-le, take-all}
 use mir.Facts.{toZ-ofZ}
 use mir.Syntax.{w64}
 use mir.Val.{SFits}
-use Rattle.lists.proofs.Joined.{all-append}
-use Rattle.lists.proofs.Alls.{all-take, all-drop, all-map}
-use Rattle.lists.proofs.Members.{All, all-map as all-weaken}
+use Rattle.lists.proofs.Entries.Joined.{all-append}
+use Rattle.lists.proofs.Entries.Alls.{all-take, all-drop, all-map}
+use Rattle.lists.specs.Members.{All}
+use Rattle.lists.proofs.Entries.Members.{all-map as all-weaken}
 use Rattle.lists.proofs.Tests.{or-false}
 use Rattle.vectors.specs.declared.Kind.{Kind}
 use Rattle.vectors.specs.declared.Kind.the-variants.{One, Two}
 use Rattle.vectors.specs.declared.Part.{Part}
 use Rattle.vectors.specs.declared.Part.the-variants.{Row, Column}
 use Rattle.vectors.specs.declared.Variable.{Variable}
-use Rattle.vectors.specs.Variable.{faulty}
-use Rattle.unit.specs.declared.Unit.{Unit as Igu}
-use Rattle.unit.specs.Bounds.{maxInputs, maxVariables}
-use Rattle.unit.specs.Record.{blankVariable, variablesOf}
+use Rattle.vectors.specs.Variable.{faulty, blankVariable}
+use Rattle.record.specs.declared.Record.{Record}
+use Rattle.vectors.specs.Bounds.{maxInputs, maxVariables}
+use Rattle.record.specs.Record.{variablesOf}
 use Rattle.bridge.specs.Flat.{kindWord, partWord, variableWord, kindAt, partAt, variableAt, variableWords, allInRange, spareWords, flatOf, unitAt}
 use Rattle.bridge.proofs.Words.{kind-one, kind-two, part-row, part-column, variable-in}
 
@@ -102,13 +103,13 @@ read-all (v ∷ vs) c = ap₂ _∷_ (c .0 .1) (read-all vs (c .1))
 
 -- ---- a record
 
-words-of : (u : Igu) → length (u .variables) ≡ maxVariables → variableWords (flatOf u) ≡ map variableWord (u .variables)
+words-of : (u : Record) → length (u .variables) ≡ maxVariables → variableWords (flatOf u) ≡ map variableWord (u .variables)
 unfolding flatOf
 words-of u e =
     let l : length (map variableWord (u .variables)) ≡ maxVariables = length-map (u .variables) variableWord ∙ e in
     take-append-le maxVariables (map variableWord (u .variables)) (replicate spareWords 0) (omega arith) ∙ take-all maxVariables (map variableWord (u .variables)) (omega arith)
 
-module _ (u : Igu) (many : length (u .variables) ≡ maxVariables) (fits : SFits w64 (u .excess)) (c : All Carries (u .variables)) where
+module _ (u : Record) (many : length (u .variables) ≡ maxVariables) (fits : SFits w64 (u .excess)) (c : All Carries (u .variables)) where
   pub carried-range : allInRange (variableWords (flatOf u)) ≡ true
   carried-range = ap allInRange (words-of u many) ∙ in-range (u .variables) c
 

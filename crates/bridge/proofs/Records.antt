@@ -7,10 +7,10 @@ use lib.ListN.{getD, replicate}
 use mir.Syntax.{w64}
 use mir.Val.{toZ, ofZ}
 use Rattle.vectors.specs.declared.Variable.{Variable}
-use Rattle.unit.specs.declared.Unit.{Unit as Igu}
+use Rattle.record.specs.declared.Record.{Record}
 use Rattle.bridge.specs.Flat.{variableWord, variableAt, variableWords, spareWords, flatOf, unitAt}
 
-abbrev numbered : List ℕ → ℤ → List Variable → Igu
+abbrev numbered : List ℕ → ℤ → List Variable → Record
 numbered words excess variables =
     record {
       n = getD words 0 0;
@@ -29,7 +29,7 @@ pub unit-read : (words : List ℕ) (excess : ℤ) (variables : List Variable) �
 unfolding unitAt
 unit-read words excess variables e f = ap₂ (numbered words) e f
 
-pub flat-written : (u : Igu) (excess : ℕ) (variables : List ℕ) → excess ≡ ofZ w64 (u .excess) → variables ≡ map variableWord (u .variables)
+pub flat-written : (u : Record) (excess : ℕ) (variables : List ℕ) → excess ≡ ofZ w64 (u .excess) → variables ≡ map variableWord (u .variables)
     → u .n ∷ u .p ∷ u .n1 ∷ u .k ∷ u .cells ∷ u .kept ∷ u .tries ∷ excess ∷ variables ++ replicate spareWords 0 ≡ flatOf u
 unfolding flatOf
 flat-written u excess variables e f =

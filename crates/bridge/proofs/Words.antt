@@ -16,9 +16,9 @@ use Rattle.vectors.specs.declared.Kind.the-variants.{One, Two}
 use Rattle.vectors.specs.declared.Part.{Part}
 use Rattle.vectors.specs.declared.Part.the-variants.{Row, Column}
 use Rattle.vectors.specs.declared.Variable.{Variable}
-use Rattle.unit.specs.Record.{blankVariable}
+use Rattle.vectors.specs.Variable.{blankVariable}
 use Rattle.bridge.specs.Flat.{kindAt, partAt, inRange, variableAt, allInRange}
-use Rattle.bridge.specs.Inner.{countedAs}
+use Rattle.bridge.specs.Inner.Counted.{countedAs}
 
 -- ---- one word
 

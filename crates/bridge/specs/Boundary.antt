@@ -3,13 +3,13 @@ use Prim.Native.Nat.{ℕ, suc, _*_, _^_, _<_}
 use mathlib.Core.Path.{_≡_}
 use mathlib.Core.List.{List}
 use lib.ListN.{length, getD}
-use Rattle.unit.specs.Demand2.{indexOf}
-use Rattle.unit.specs.Recover.{recovered}
+use Rattle.record.specs.Holds.{indexOf}
+use Rattle.recover.specs.Recover.{recovered}
 use Rattle.bridge.specs.Calls.{Left, lookupCall, recoveredIn}
 
--- "For an accepted list, with record and tables as the build left them,"
+-- SCOPE 16.2 of the functions for C: where the answer is 0, with record and tables as the call left them
 pub record Exact (n : ℕ) (vs : List ℕ) (l : Left) : Type 0 where
-  -- "lookup of any key of the list's width gives i exactly when the key equals vector i in every bit, else zero;"
+  -- igu_lookup of a key of n bits answers with the index of the vector that equals it, and 0 where none does
   pub lookup-exact : l .answer ≡ 0 → (x : ℕ) → x < 2 ^ n → lookupCall (l .words) (l .tables) x ≡ 256 * indexOf vs x
-  -- "recovery of i gives vector i."
+  -- igu_recover of an index gives its vector
   pub recovery-exact : l .answer ≡ 0 → (i : ℕ) → i < length vs → recoveredIn (l .words) (l .tables) (suc i) ≡ recovered (getD vs i 0)

@@ -1,15 +1,17 @@
--- The four calls of the boundary, over the definitions of the unit.
-use Prim.Native.Nat.{ℕ, _+_, _*_}
+-- The calls of the boundary, over the definitions of the unit.
+use Prim.Native.Nat.{ℕ, _+_, _*_, _%_, _^_}
 use mathlib.Core.Bool.{cond}
 use mathlib.Core.List.{List, map}
-use Rattle.unit.specs.declared.Found.{Found}
-use Rattle.unit.specs.declared.Recovered.{Recovered}
-use Rattle.unit.specs.Build.{Tables, Outcome, buildChosen, buildGiven}
-use Rattle.unit.specs.Lookup.{notFound, lookupOf}
-use Rattle.unit.specs.Recover.{notRecovered, recoverOf}
+use Rattle.lookup.specs.declared.Found.{Found}
+use Rattle.recover.specs.declared.Recovered.{Recovered}
+use Rattle.record.specs.Tables.{Tables}
+use Rattle.build.specs.Build.{Outcome, buildChosen, buildGiven}
+use Rattle.lookup.specs.Lookup.{notFound, lookupOf}
+use Rattle.recover.specs.Recover.{notRecovered, recoverOf}
+use Rattle.many.specs.Lookups.{lookupMany}
 use Rattle.bridge.specs.Flat.{variableAt, flatOf, unitAt, variableWords, allInRange}
 
--- "refusal + 256 * place", "refusal + 256 * index"
+-- the answer: the refusal, and above its 8 bits the place or the index
 abbrev pub answer : ℕ → ℕ → ℕ
 answer refusal number = refusal + 256 * number
 
@@ -33,7 +35,7 @@ unfoldable pub givenCall : ℕ → ℕ → ℕ → ℕ → List ℕ → List ℕ
 unfolding buildGiven variableAt flatOf
 givenCall n p n1 cells variables vs t = leftBy (buildGiven n (map variableAt variables) p n1 cells vs t)
 
--- "In lookup and recovery a variable word above 2^17 - 1, any of the 24, is refusal 14."
+-- a word that is no variable's, any of the 24, is refused as 14 by lookup and recovery
 unfoldable pub foundIn : List ℕ → Tables → ℕ → Found
 unfolding allInRange unitAt lookupOf
 foundIn words t x = cond (allInRange (variableWords words)) (lookupOf (unitAt words) t x) (notFound 14)
@@ -42,7 +44,20 @@ unfoldable pub recoveredIn : List ℕ → Tables → ℕ → Recovered
 unfolding allInRange unitAt recoverOf
 recoveredIn words t i = cond (allInRange (variableWords words)) (recoverOf (unitAt words) t i) (notRecovered 14)
 
--- "lookup returns refusal + 256 * index"
+-- the refusal and the index of a lookup
 unfoldable pub lookupCall : List ℕ → Tables → ℕ → ℕ
 unfolding foundIn
 lookupCall words t x = let f = foundIn words t x in answer (f .refusal) (f .index)
+
+-- what looking up many keys leaves: its answer and every word of the indices
+pub record Indexed : Type 0 where
+  pub answer : ℕ
+  pub indices : List ℕ
+
+abbrev pub indexed : ℕ → List ℕ → Indexed
+indexed r indices = record { answer = r; indices = indices }
+
+-- refusal + 256 * place; of a place the lowest 56 bits, more than any memory has keys
+unfoldable pub manyCall : List ℕ → Tables → List ℕ → List ℕ → Indexed
+unfolding foundIn lookupMany
+manyCall words t keys old = let l = lookupMany (foundIn words t) keys old in indexed (answer (l .answer .refusal) (l .answer .place % 2 ^ 56)) (l .indices)

@@ -11,11 +11,11 @@ use Rattle.vectors.specs.declared.Kind.the-variants.{One, Two}
 use Rattle.vectors.specs.declared.Part.{Part}
 use Rattle.vectors.specs.declared.Part.the-variants.{Row, Column}
 use Rattle.vectors.specs.declared.Variable.{Variable}
-use Rattle.unit.specs.declared.Unit.{Unit as Igu}
-use Rattle.unit.specs.Bounds.{maxVariables}
-use Rattle.unit.specs.Record.{blankVariable}
+use Rattle.record.specs.declared.Record.{Record}
+use Rattle.vectors.specs.Bounds.{maxVariables}
+use Rattle.vectors.specs.Variable.{blankVariable}
 
--- "24 variables as i + 256*j + 65536*part (j 0 for a single input, part 0 row, 1 column; 0 when unused)"
+-- a variable's word: i in the lowest 8 bits, j (0 for a single input) in the next 8, and 1 above them for a column variable; a blank one is 0
 abbrev pub kindWord : Kind → ℕ
 kindWord (One i) = i
 kindWord (Two i j) = i + 256 * j
@@ -33,23 +33,23 @@ kindAt i j = cond (eqb j 0) (One i) (Two i j)
 abbrev pub partAt : ℕ → Part
 partAt mark = cond (eqb mark 0) Row Column
 
--- "a variable word above 2^17 - 1"
+-- a variable's word has 17 bits
 abbrev pub inRange : ℕ → Bool
 inRange w = ltb w (2 ^ 17)
 
--- "In the given build such a word among the first p counts as One(0)"
+-- a word with more bits counts as the blank variable, which is faulty
 unfoldable pub variableAt : ℕ → Variable
 variableAt w = cond (inRange w) (record { kind = kindAt (w % 256) (w / 256 % 256); part = partAt (w / 65536) }) blankVariable
 
--- where the variables begin, and the words "that the builds write as 0 and nothing reads"
+-- where the variables begin, and the words after them, which are written as 0 and never read
 abbrev pub firstVariable : ℕ
 firstVariable = 8
 
 abbrev pub spareWords : ℕ
 spareWords = 8
 
--- "n, p, n1, k, L, kept mask, tries, excess (two's complement), then 24 variables .., then 8 words"
-unfoldable pub flatOf : Igu → List ℕ
+-- the record in 40 words: n, p, n1, k, L, the mask of the kept inputs, the tries, the excess in two's complement, the variables, and 8 words of 0
+unfoldable pub flatOf : Record → List ℕ
 flatOf u =
     u .n ∷ u .p ∷ u .n1 ∷ u .k ∷ u .cells ∷ u .kept ∷ u .tries ∷ ofZ w64 (u .excess) ∷ map variableWord (u .variables)
     ++ replicate spareWords 0
@@ -59,7 +59,7 @@ abbrev pub variableWords : List ℕ → List ℕ
 variableWords words = take maxVariables (drop firstVariable words)
 
 -- the unit of a record
-unfoldable pub unitAt : List ℕ → Igu
+unfoldable pub unitAt : List ℕ → Record
 unfolding variableAt
 unitAt words =
     record {

@@ -2,27 +2,21 @@
 ghost use mathlib.Core.Path.{_≡_};
 ghost use mathlib.Core.Bool.{true};
 ghost use mathlib.Core.List.{map};
-ghost use Prim.Native.Nat.{_<_, _^_};
+ghost use Prim.Native.Nat.{_<_, _%_, _^_};
 ghost use lib.ListN.{length};
 ghost use mir.Syntax.{w64};
 ghost use mir.Val.{toZ, ofZ};
-ghost use Rattle.unit.specs.Record.{blankVariable};
 ghost use Rattle.bridge.specs.Flat as spec;
 ghost use Rattle.bridge.specs.Calls as calls;
-ghost use Rattle.bridge.specs.Inner.{countedAs};
-use unit::Unit;
+ghost use Rattle.bridge.specs.Inner.Counted.{countedAs};
+use record::Record;
 use vectors::Kind;
+use vectors::MAX_VARIABLES;
 use vectors::Part;
 use vectors::Variable;
 
-fn blank() -> Variable
-    ensures { λ r. ⌜ r ≡ blankVariable ⌝ }
-{
-    Variable {
-        kind: Kind::One(0),
-        part: Part::Row,
-    }
-}
+// The words of a flat record; variables stand in words 8 to 31.
+pub(crate) const WORDS: usize = 40;
 
 fn kind_word(kind: Kind) -> u64
     ensures { λ r. ⌜ (r ≡ spec.kindWord kind) × (r < 65536) ⌝ }
@@ -86,13 +80,13 @@ fn counted(word: u64) -> u64
     word
 }
 
-pub(crate) fn all_counted(words: &[u64]) -> [u64; 24]
+pub(crate) fn all_counted(words: &[u64]) -> [u64; MAX_VARIABLES]
     requires { ⌜ length (now words) ≡ 24 ⌝ }
     ensures { λ r. ⌜ r ≡ map countedAs (now (words .entry)) ⌝ }
 {
-    let mut w = [0u64; 24];
+    let mut w = [0u64; MAX_VARIABLES];
     let mut i = 0;
-    while i < 24 {
+    while i < MAX_VARIABLES {
         w[i] = counted(words[i]);
         i += 1;
     }
@@ -101,11 +95,11 @@ pub(crate) fn all_counted(words: &[u64]) -> [u64; 24]
 
 // The variables of 24 words in range. The loop goes by the slice's length and not by 24: small as it then is, the compiler
 // takes it into lookup, where the length is known, and reads the words there several at a time.
-pub(crate) fn variables(words: &[u64]) -> [Variable; 24]
+pub(crate) fn variables(words: &[u64]) -> [Variable; MAX_VARIABLES]
     requires { ⌜ (length (now words) ≡ 24) × (spec.allInRange (now words) ≡ true) ⌝ }
     ensures { λ r. ⌜ r ≡ map spec.variableAt (now (words .entry)) ⌝ }
 {
-    let mut v = [blank(); 24];
+    let mut v = vectors::blank_variables();
     let mut i = 0;
     while i < words.len() {
         v[i] = variable_at(words[i]);
@@ -128,7 +122,7 @@ fn all_in_range(words: &[u64]) -> bool
 }
 
 // Whether the variable words of a record are in range.
-pub(crate) fn readable(words: &[u64; 40]) -> bool
+pub(crate) fn readable(words: &[u64; WORDS]) -> bool
     ensures { λ r. ⌜ r ≡ spec.allInRange (spec.variableWords (now (words .entry))) ⌝ }
 {
     let all = &words[..];
@@ -155,12 +149,12 @@ fn signed(w: u64) -> i64
 }
 
 // The words of the variables.
-fn write_variables(variables: [Variable; 24], words: &mut [u64])
+fn write_variables(variables: [Variable; MAX_VARIABLES], words: &mut [u64])
     requires { ⌜ length (now words) ≡ 24 ⌝ }
     ensures { λ _. ⌜ now (words .exit) ≡ map spec.variableWord variables ⌝ }
 {
     let mut i = 0;
-    while i < 24 {
+    while i < MAX_VARIABLES {
         let v = variables[i];
         words[i] = word(v);
         i += 1;
@@ -168,10 +162,10 @@ fn write_variables(variables: [Variable; 24], words: &mut [u64])
 }
 
 // The record of a unit.
-pub(crate) fn words(unit: Unit) -> [u64; 40]
+pub(crate) fn words(unit: Record) -> [u64; WORDS]
     ensures { λ r. ⌜ r ≡ spec.flatOf unit ⌝ }
 {
-    let mut w = [0u64; 40];
+    let mut w = [0u64; WORDS];
     w[0] = unit.n as u64;
     w[1] = unit.p as u64;
     w[2] = unit.n1 as u64;
@@ -186,11 +180,11 @@ pub(crate) fn words(unit: Unit) -> [u64; 40]
 }
 
 // The unit of a record, whose variables are read already.
-pub(crate) fn unit(words: &[u64; 40], variables: [Variable; 24]) -> Unit
+pub(crate) fn unit(words: &[u64; WORDS], variables: [Variable; MAX_VARIABLES]) -> Record
     requires { ⌜ variables ≡ map spec.variableAt (spec.variableWords (now words)) ⌝ }
     ensures { λ r. ⌜ r ≡ spec.unitAt (now (words .entry)) ⌝ }
 {
-    Unit {
+    Record {
         n: words[0] as usize,
         p: words[1] as usize,
         n1: words[2] as usize,
@@ -209,4 +203,11 @@ pub(crate) fn answer(refusal: u8, number: usize) -> u64
     ensures { λ r. ⌜ r ≡ calls.answer refusal number ⌝ }
 {
     refusal as u64 + 256 * (number as u64)
+}
+
+// The same of a place with no bound but its type's.
+pub(crate) fn many_answer(refusal: u8, place: usize) -> u64
+    ensures { λ r. ⌜ r ≡ calls.answer refusal (place % 2 ^ 56) ⌝ }
+{
+    refusal as u64 + ((place as u64) << 8)
 }

@@ -1,8 +1,10 @@
-// The unit for C and Rust: four functions over slices and a flat record of 40 words.
+// The unit for C and Rust: five functions over slices and a flat record of 40 words.
 ghost use mathlib.Core.Path.{_≡_};
 ghost use mathlib.Core.List.{_∷_, []};
-ghost use Rattle.unit.specs.Build.{lent};
-ghost use Rattle.bridge.specs.Calls.{left, buildCall, givenCall, lookupCall, recoveredIn};
+ghost use Rattle.record.specs.Tables.{lent};
+ghost use Rattle.bridge.specs.Calls.{left, indexed, buildCall, givenCall, lookupCall, manyCall, recoveredIn};
+use flat::WORDS;
+use vectors::MAX_VARIABLES;
 
 mod flat;
 
@@ -16,7 +18,7 @@ pub extern "C" fn igu_build(
     h: &mut [u16],
     g: &mut [u16],
     aux: &mut [u64],
-    words: &mut [u64; 40],
+    words: &mut [u64; WORDS],
 ) -> u64
     ensures { λ r. ⌜ left r (now (words .exit)) (lent (now (h .exit)) (now (g .exit)) (now (aux .exit)))
         ≡ buildCall n degree cells (now (vectors .entry)) (lent (now (h .entry)) (now (g .entry)) (now (aux .entry))) ⌝ }
@@ -34,12 +36,12 @@ pub extern "C" fn igu_build_given(
     p: usize,
     n1: usize,
     cells: usize,
-    variables: &[u64; 24],
+    variables: &[u64; MAX_VARIABLES],
     vectors: &[u64],
     h: &mut [u16],
     g: &mut [u16],
     aux: &mut [u64],
-    words: &mut [u64; 40],
+    words: &mut [u64; WORDS],
 ) -> u64
     ensures { λ r. ⌜ left r (now (words .exit)) (lent (now (h .exit)) (now (g .exit)) (now (aux .exit)))
         ≡ givenCall n p n1 cells (now (variables .entry)) (now (vectors .entry)) (lent (now (h .entry)) (now (g .entry)) (now (aux .entry))) ⌝ }
@@ -54,7 +56,7 @@ pub extern "C" fn igu_build_given(
 
 // The refusal and 256 times the number of the registered vector x, or 0.
 #[no_mangle]
-pub extern "C" fn igu_lookup(words: &[u64; 40], h: &[u16], g: &[u16], aux: &[u64], x: u64) -> u64
+pub extern "C" fn igu_lookup(words: &[u64; WORDS], h: &[u16], g: &[u16], aux: &[u64], x: u64) -> u64
     ensures { λ r. ⌜ r ≡ lookupCall (now (words .entry)) (lent (now (h .entry)) (now (g .entry)) (now (aux .entry))) x ⌝ }
 {
     if !flat::readable(words) {
@@ -66,10 +68,33 @@ pub extern "C" fn igu_lookup(words: &[u64; 40], h: &[u16], g: &[u16], aux: &[u64
     flat::answer(found.refusal, found.index)
 }
 
+// The index of each key goes to indices. The answer is the refusal of the first key that is refused, and 256 times its number.
+#[no_mangle]
+pub extern "C" fn igu_lookup_many(
+    words: &[u64; WORDS],
+    h: &[u16],
+    g: &[u16],
+    aux: &[u64],
+    keys: &[u64],
+    indices: &mut [u16],
+) -> u64
+    ensures { λ r. ⌜ indexed r (now (indices .exit))
+        ≡ manyCall (now (words .entry)) (lent (now (h .entry)) (now (g .entry)) (now (aux .entry))) (now (keys .entry)) (now (indices .entry)) ⌝ }
+{
+    if !flat::readable(words) {
+        let refused = many::refuse_many(keys, indices);
+        return flat::many_answer(refused.refusal, refused.place);
+    }
+    let all = &words[..];
+    let variables = flat::variables(&all[8..32]);
+    let found = many::lookup_many(flat::unit(words, variables), h, g, aux, keys, indices);
+    flat::many_answer(found.refusal, found.place)
+}
+
 // The refusal; the registered vector with the number i goes to vector.
 #[no_mangle]
 pub extern "C" fn igu_recover(
-    words: &[u64; 40],
+    words: &[u64; WORDS],
     h: &[u16],
     g: &[u16],
     aux: &[u64],

@@ -1,7 +1,7 @@
 // Cases of the builds. Every table is filled with nines and digested whole, so that a word written beyond its range shows.
-ghost use Prim.Native.Nat.{_≤_};
 use crate::say;
 use vectors::Kind;
+use vectors::MAX_VARIABLES;
 use vectors::Part;
 use vectors::Variable;
 
@@ -23,12 +23,6 @@ fn powers(words: &mut [u64]) {
     }
 }
 
-fn least(a: usize, b: usize) -> usize
-    ensures { λ r. ⌜ r ≤ b ⌝ }
-{
-    if a < b { a } else { b }
-}
-
 // The build by rule with the tables lent as long as stated.
 fn in_part(
     n: usize,
@@ -42,9 +36,9 @@ fn in_part(
     g: &mut [u16],
     aux: &mut [u64],
 ) {
-    let rows = least(rows, h.len());
-    let room = least(room, g.len());
-    let words = least(words, aux.len());
+    let rows = lists::least(rows, h.len());
+    let room = lists::least(room, g.len());
+    let words = lists::least(words, aux.len());
     let b = unit::build_chosen(
         n,
         degree,
@@ -97,7 +91,7 @@ fn given(a: Kind, b: Kind, c: Kind, p: usize, n1: usize, cells: usize, vectors: 
     let mut v = [Variable {
         kind: Kind::One(0),
         part,
-    }; 24];
+    }; MAX_VARIABLES];
     v[0] = Variable { kind: a, part };
     v[1] = Variable { kind: b, part };
     v[2] = Variable { kind: c, part };
@@ -105,7 +99,7 @@ fn given(a: Kind, b: Kind, c: Kind, p: usize, n1: usize, cells: usize, vectors: 
     say::built(built, &h, &g, &aux);
 }
 
-// The unit's three variables of document 01, given.
+// The unit's three variables of SCOPE 15.3, given.
 fn the_three(p: usize, n1: usize, cells: usize, vectors: &[u64]) {
     given(
         Kind::One(2),

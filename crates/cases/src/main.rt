@@ -1,7 +1,5 @@
-// Runs the cases of document 01 that are not proved as theorems, and each cause of each refusal; the output is compared.
+// Runs the sample units that are not proved as theorems, and each cause of refusals 1 to 13; the output is compared.
 mod builds;
-mod lookups;
-mod pages;
 mod say;
 
 fn main() {
@@ -9,6 +7,4 @@ fn main() {
     builds::list_refusals();
     builds::variable_refusals();
     builds::table_refusals();
-    lookups::run();
-    pages::run();
 }

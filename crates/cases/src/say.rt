@@ -1,8 +1,6 @@
-// What the cases print.
+// What the builds print.
 use libc::STDOUT_FILENO;
 use unit::Built;
-use unit::Found;
-use unit::Recovered;
 
 fn number(x: u64) {
     io::write_all(STDOUT_FILENO, b" ");
@@ -50,23 +48,5 @@ pub(crate) fn built(b: Built, h: &[u16], g: &[u16], aux: &[u64]) {
     number(digest16(h));
     number(digest16(g));
     number(digest64(aux));
-    io::write_all(STDOUT_FILENO, b"\n");
-}
-
-// The refusal, its place and the index.
-pub(crate) fn found(f: Found) {
-    io::write_all(STDOUT_FILENO, b"lookup");
-    number(f.refusal as u64);
-    number(f.place as u64);
-    number(f.index as u64);
-    io::write_all(STDOUT_FILENO, b"\n");
-}
-
-// The refusal, its place and the vector.
-pub(crate) fn recovered(r: Recovered) {
-    io::write_all(STDOUT_FILENO, b"recover");
-    number(r.refusal as u64);
-    number(r.place as u64);
-    number(r.vector);
     io::write_all(STDOUT_FILENO, b"\n");
 }

@@ -1,9 +1,4 @@
-pub mod Layout
-pub mod Gain
-pub mod Best
-pub mod Groups
+pub mod Choice
+pub mod Least
 pub mod Choosing
-pub mod Judged
-pub mod Search
-pub mod Ties
 pub mod Inner

@@ -1,20 +1,21 @@
-// The best candidate for groups of words.
+// A step: the best candidate for groups of words, which are laid out, turned on their side, and searched.
 ghost use mathlib.Core.Path.{_≡_};
 ghost use Prim.Native.Nat.{_*_};
 ghost use lib.ListN.{length};
 ghost use Rattle.lists.specs.Cut.{cut};
-ghost use Rattle.vectors.specs.Choice.{bestOf, candidates};
-ghost use Rattle.choice.specs.Best.{Searched, scoreOf};
-ghost use Rattle.choice.specs.Layout.{maxBlocks};
-ghost use Rattle.choice.specs.Ties.{Ties};
+ghost use Rattle.choice.specs.Choice.{bestOf, candidates};
+ghost use Rattle.choice.specs.Inner.Best.{Searched, scoreOf};
+ghost use Rattle.choice.specs.Inner.Layout.{maxBlocks};
+ghost use Rattle.choice.specs.Inner.Ties.{Ties};
 use crate::draw;
 use crate::judge;
 use crate::lay;
+use crate::lay::MAX_BLOCKS;
 use crate::search;
 use vectors::Kind;
 
 // The first of the candidates of n inputs that leave the fewest pairs of words, in groups of those sizes, that agree. Those with a tied
-// input are not tried, but for x_1. The items are lent, since they are large: what they hold before and after does not matter.
+// input are not tried, but for x_1. What the items that are lent hold before and after does not matter.
 pub(crate) fn best(
     words: &[u64],
     sizes: &[u16],
@@ -28,8 +29,8 @@ pub(crate) fn best(
     ensures { λ r. ⌜ r ≡ bestOf (scoreOf (now (sizes .entry)) (now (words .entry))) (candidates n degree) ⌝ }
 {
     let most = judge::most(sizes);
-    let mut ends = [0u16; 88];
-    let mut rests = [1u64; 88];
+    let mut ends = [0u16; MAX_BLOCKS];
+    let mut rests = [1u64; MAX_BLOCKS];
     let laid = lay::lay(words, sizes, most, items, &mut ends, &mut rests);
     let whole = laid.whole;
     let blocks = (laid.items + 63) / 64;

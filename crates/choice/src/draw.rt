@@ -1,9 +1,9 @@
-// The items turned on their side: each block has then a word for each input.
+// The items turned on their side, block by block: a block then has a word for each input, its column, with a bit for each item.
 ghost use Prim.Native.Nat.{_*_, _≤_};
 ghost use mathlib.Core.Path.{_≡_};
 ghost use lib.ListN.{length};
-ghost use Rattle.choice.specs.Layout.{maxBlocks};
-ghost use Rattle.choice.specs.Judged.{Drawn};
+ghost use Rattle.choice.specs.Inner.Layout.{maxBlocks};
+ghost use Rattle.choice.specs.Inner.Judged.{Drawn};
 
 // Each of the first blocks is turned on its side where it stands.
 pub(crate) fn draw(items: &mut [u64], blocks: usize)
@@ -14,7 +14,7 @@ pub(crate) fn draw(items: &mut [u64], blocks: usize)
     while w < blocks {
         let from = 64 * w;
         let to = from + 64;
-        turn::turn(&mut items[from..to]);
+        transpose::transpose(&mut items[from..to]);
         w += 1;
     }
 }

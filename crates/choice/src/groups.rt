@@ -1,15 +1,17 @@
-// Groups of vectors that agree so far. A group with fewer than two members is dropped: nothing in it can be told apart any further.
+// Groups of vectors that agree on all variables so far. A variable splits each group in two, the members with 0 before those with 1. A
+// half with fewer than two members is dropped: nothing in it can be told apart any further.
 ghost use Prim.Native.Nat.{_+_, _≤_, _<_};
 ghost use lib.ListN.{length};
-ghost use Rattle.lists.proofs.Members.{All};
-ghost use Rattle.vectors.proofs.Choice.Groups.{part, refined, whole};
+ghost use Rattle.lists.specs.Members.{All};
+ghost use Rattle.choice.specs.Inner.Split.{part, refined, whole};
 ghost use Rattle.vectors.specs.Bounds.{maxVectors};
-ghost use Rattle.choice.specs.Groups.{cut, groupsOf, valueAt, Cuts, Shape, GroupsAre, Listed, Room, Adds, Holds};
+ghost use Rattle.choice.specs.Inner.Groups.{cut, groupsOf, valueAt, Cuts, Shape, GroupsAre, Room, Adds, Holds};
+use vectors::MAX_WORDS;
 
 // The members, indices from 0, group after group, and how long each group is.
 pub(crate) struct Groups {
-    pub order: [u16; 1024],
-    pub sizes: [u16; 1024],
+    pub order: [u16; MAX_WORDS],
+    pub sizes: [u16; MAX_WORDS],
     pub members: usize,
     pub count: usize,
 }
@@ -25,8 +27,8 @@ pub(crate) fn all(k: usize) -> Groups
     requires { ⌜ k ≤ maxVectors ⌝ }
     ensures { λ r. ⌜ GroupsAre k (whole k) r ⌝ }
 {
-    let mut order = [0u16; 1024];
-    let mut sizes = [0u16; 1024];
+    let mut order = [0u16; MAX_WORDS];
+    let mut sizes = [0u16; MAX_WORDS];
     if k < 2 {
         return Groups {
             order,
@@ -49,32 +51,7 @@ pub(crate) fn all(k: usize) -> Groups
     }
 }
 
-// Writes the members of the group whose value under the mask is bit, from place at on, and returns the place after them.
-fn members_with(
-    vectors: &[u64],
-    mask: u64,
-    bit: u64,
-    group: &[u16],
-    out: &mut [u16],
-    at: usize,
-) -> usize
-    requires { ⌜ All (λ i. i < length (now vectors)) (now group) ⌝ }
-    requires { ⌜ at + length (part (valueAt (now vectors) mask) bit (now group)) < length (now out) ⌝ }
-    ensures { λ r. ⌜ Listed (part (valueAt (now (vectors .entry)) mask) bit (now (group .entry))) (now (out .entry)) at (now (out .exit)) r ⌝ }
-{
-    let mut w = at;
-    let mut i = 0;
-    while i < group.len() {
-        let m = group[i];
-        i += 1;
-        // The next member is written over one that does not count: a branch on the value would be mispredicted half of the time.
-        out[w] = m;
-        w += (vectors::value(mask, vectors[m as usize]) == bit) as usize;
-    }
-    w
-}
-
-// One half of a group, where it has two members or more.
+// One half of a group: its members whose value under the mask is bit, after those written. They are a group where they are two or more.
 fn keep_half(
     vectors: &[u64],
     mask: u64,
@@ -89,7 +66,15 @@ fn keep_half(
     ensures { λ r. ⌜ Adds (part (valueAt (now (vectors .entry)) mask) bit (now (group .entry))) (now (out .entry)) (now (sizes .entry)) at (now (out .exit)) (now (sizes .exit)) r ⌝ }
 {
     let from = at.members;
-    let to = members_with(vectors, mask, bit, group, out, from);
+    let mut to = from;
+    let mut i = 0;
+    while i < group.len() {
+        let m = group[i];
+        i += 1;
+        // The next member is written over one that does not count: a branch on the value would be mispredicted half of the time.
+        out[to] = m;
+        to += (vectors::value(mask, vectors[m as usize]) == bit) as usize;
+    }
     if to - from < 2 {
         return at;
     }
@@ -139,8 +124,8 @@ pub(crate) fn refined(vectors: &[u64], mask: u64, groups: Groups) -> Groups
     let sizes = groups.sizes;
     let m = groups.members;
     let q = groups.count;
-    let mut next = [0u16; 1024];
-    let mut next_sizes = [0u16; 1024];
+    let mut next = [0u16; MAX_WORDS];
+    let mut next_sizes = [0u16; MAX_WORDS];
     let at = split_all(
         vectors,
         mask,

@@ -1,4 +1,12 @@
-// The groups laid out as items, 64 to a block.
+// The groups laid out as items, 64 to a block. There are two ways, and both say how many pairs a candidate tells apart.
+//
+// A group of more than 11 members is large. Its items are its members, and it begins a block of its own: with a ones and b zeros, a * b pairs
+// are told apart. The last of its blocks is filled up with zeros and gets the group's size as its end; any other block has the end 0.
+// Of a small group the items are its pairs, the XOR of each two members: a 1 is a pair told apart. Small groups follow each other without
+// a gap, after the large ones. Each of their blocks gets a rest, what can be told apart from that block on at most.
+//
+// A small group of s members has (s - 1) / 2 items for each member, so at most 5; a large one has at most a block for each 12 members. So the
+// items of 1,023 members take at most 88 blocks.
 ghost use mathlib.Core.Path.{_≡_};
 ghost use mathlib.Core.List.{map};
 ghost use Prim.Native.Nat.{_+_, _-_, _*_, _≤_};
@@ -6,27 +14,20 @@ ghost use lib.Bits.{bitXor};
 ghost use lib.ListN.{length, take, replicate};
 ghost use lib.Seq.{sets};
 ghost use Rattle.lists.specs.Cut.{cut};
-ghost use Rattle.choice.specs.Layout.{pairsOf, wholeItems, maxBlocks};
-ghost use Rattle.choice.specs.Gain.{mostOf, smallMost};
-ghost use Rattle.choice.specs.Inner.{Grouped, WholeLaid, PairsLaid, LaidOut};
+ghost use Rattle.choice.specs.Inner.Layout.{pairsOf, wholeItems, maxBlocks};
+ghost use Rattle.choice.specs.Inner.Gain.{mostOf, smallMost};
+ghost use Rattle.choice.specs.Inner.Laid.{Grouped, WholeLaid, PairsLaid, LaidOut};
 use crate::judge;
+
+// The members of a group that is laid by its pairs, at most; and the blocks that the items of all groups take, at most.
+const PAIRED_MOST: u16 = 11;
+
+pub(crate) const MAX_BLOCKS: usize = 88;
 
 // How many blocks hold large groups, and how many items there are, with the 64 of each of these blocks.
 pub(crate) struct Laid {
     pub whole: usize,
     pub items: usize,
-}
-
-// The words, from place at on.
-fn copy(from: &[u64], to: &mut [u64], at: usize)
-    requires { ⌜ at + length (now from) ≤ length (now to) ⌝ }
-    ensures { λ r. ⌜ now (to .exit) ≡ sets (now (to .entry)) at (now (from .entry)) ⌝ }
-{
-    let mut i = 0;
-    while i < from.len() {
-        to[at + i] = from[i];
-        i += 1;
-    }
 }
 
 // Zeros, from place at until another.
@@ -41,14 +42,14 @@ fn zero(to: &mut [u64], at: usize, until: usize)
     }
 }
 
-// The pairs of one member with each of the rest, from place at on.
-fn pairs_with(x: u64, rest: &[u64], out: &mut [u64], at: usize)
-    requires { ⌜ at + length (now rest) ≤ length (now out) ⌝ }
-    ensures { λ r. ⌜ now (out .exit) ≡ sets (now (out .entry)) at (map (bitXor x) (now (rest .entry))) ⌝ }
+// Each of the words XOR x, from place at on.
+fn xored(x: u64, words: &[u64], out: &mut [u64], at: usize)
+    requires { ⌜ at + length (now words) ≤ length (now out) ⌝ }
+    ensures { λ r. ⌜ now (out .exit) ≡ sets (now (out .entry)) at (map (bitXor x) (now (words .entry))) ⌝ }
 {
     let mut i = 0;
-    while i < rest.len() {
-        out[at + i] = x ^ rest[i];
+    while i < words.len() {
+        out[at + i] = x ^ words[i];
         i += 1;
     }
 }
@@ -63,13 +64,13 @@ fn pairs(group: &[u64], out: &mut [u64], at: usize) -> usize
     while i < group.len() {
         let x = group[i];
         i += 1;
-        pairs_with(x, &group[i..], out, w);
+        xored(x, &group[i..], out, w);
         w += group.len() - i;
     }
     w
 }
 
-// The groups of more than 11 members, each from a new block on, with zeros up to the end of its last; how many blocks they take.
+// The large groups, each from a new block on, with zeros up to the end of its last; how many blocks they take.
 fn lay_whole(words: &[u64], sizes: &[u16], items: &mut [u64], ends: &mut [u16]) -> usize
     requires { ⌜ Grouped (now sizes) (now words) ⌝ }
     requires { ⌜ (length (now items) ≡ 64 * maxBlocks) × (now ends ≡ replicate maxBlocks 0) ⌝ }
@@ -84,9 +85,9 @@ fn lay_whole(words: &[u64], sizes: &[u16], items: &mut [u64], ends: &mut [u16]) 
         let start = from;
         from += size;
         g += 1;
-        if s > 11 {
+        if s > PAIRED_MOST {
             let at = 64 * whole;
-            copy(&words[start..from], items, at);
+            xored(0, &words[start..from], items, at);
             whole += (size + 63) / 64;
             zero(items, at + size, 64 * whole);
             ends[whole - 1] = s;
@@ -95,7 +96,7 @@ fn lay_whole(words: &[u64], sizes: &[u16], items: &mut [u64], ends: &mut [u16]) 
     whole
 }
 
-// The pairs of the other groups, from place at on; the place after them. Small is what these groups have at most; a block gets what those of
+// The pairs of the small groups, from place at on; the place after them. Small is what these groups have at most; a block gets what those of
 // them have that are not wholly before it.
 fn lay_pairs(
     words: &[u64],
@@ -120,7 +121,7 @@ fn lay_pairs(
         let start = from;
         from += s as usize;
         g += 1;
-        if s <= 11 {
+        if s <= PAIRED_MOST {
             w = pairs(&words[start..from], items, w);
             let rest = left;
             left -= (s * s / 4) as u64;

@@ -1,7 +1,14 @@
-// The variables that the rule chooses for a list. Vectors that agree so far form groups. The groups are laid out and turned on their
-// side: the values of an input in all members stand together, so that a candidate is judged 64 members at a time.
+// The variables that the choosing rule takes for a list.
+//
+// Vectors that agree on all variables so far form a group (groups). A step (rule, best) lays the groups out in blocks of 64 items (lay) and
+// turns each block on its side where it stands (draw). Each input then has a column in each block, with a bit for each item. A candidate
+// is the XOR of two columns: its ones, counted 64 items at a time, say how many pairs it tells apart (judge). The search keeps the best of
+// the candidates (search), and the groups are split by it.
 ghost use mathlib.Core.Path.{_≡_};
 ghost use Rattle.choice.specs.Choosing.{chosenIn};
+use vectors::MAX_INPUTS;
+use vectors::MAX_VARIABLES;
+use vectors::MAX_VECTORS;
 use vectors::Variable;
 
 mod best;
@@ -12,9 +19,9 @@ mod lay;
 mod rule;
 mod search;
 
-// The variables in their places, all marked row, how many, and whether no two vectors agree on all.
+// The variables in their places, all marked row; how many there are; and whether no two vectors agree on all of them.
 pub struct Chosen {
-    pub variables: [Variable; 24],
+    pub variables: [Variable; MAX_VARIABLES],
     pub p: usize,
     pub apart: bool,
 }
@@ -23,14 +30,13 @@ pub struct Chosen {
 pub fn choose(vectors: &[u64], n: u8, degree: usize) -> Chosen
     ensures { λ r. ⌜ r ≡ chosenIn (now (vectors .entry)) n degree ⌝ }
 {
-    if n == 0 {
-        return rule::none();
-    }
-    if 64 < n {
-        return rule::none();
-    }
-    if 1023 < vectors.len() {
-        return rule::none();
+    if vectors::outside(1, MAX_INPUTS, n as usize) || MAX_VECTORS < vectors.len() {
+        let variables = vectors::blank_variables();
+        return Chosen {
+            variables,
+            p: 0,
+            apart: false,
+        };
     }
     rule::choose(vectors, n, degree)
 }

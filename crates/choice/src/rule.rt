@@ -1,16 +1,23 @@
-// The rule: the best candidate is taken until no two vectors agree.
+// The rule: the best candidate is taken, and the groups are split by it, until no group is left or all places are used.
+//
+// Tied inputs are left out. Once a variable of the inputs i < j is taken (i = 0 for a single one), x_i and x_j are equal or different
+// throughout each group, for good. So a candidate with x_j splits every group as the one with x_i in its place does, which stands earlier,
+// and x_i with x_j tells nothing apart: no candidate with x_j can be the first of the best any more.
 ghost use mathlib.Core.Path.{_≡_};
-ghost use mathlib.Core.List.{[], map};
-ghost use Prim.Native.Nat.{_-_, _+_, _≤_, _<_};
+ghost use mathlib.Core.List.{map};
+ghost use Prim.Native.Nat.{_≤_, _<_};
 ghost use lib.ListN.{length, getD, take};
-ghost use Rattle.lists.proofs.Members.{All};
+ghost use Rattle.lists.specs.Members.{All};
 ghost use Rattle.vectors.specs.Bounds.{maxInputs, maxVectors};
-ghost use Rattle.choice.specs.Choosing.{placed, chosenBy, noneChosen};
-ghost use Rattle.choice.specs.Ties.{laterOf};
+ghost use Rattle.choice.specs.Choosing.{chosenBy};
+ghost use Rattle.choice.specs.Inner.Ties.{laterOf};
 use crate::Chosen;
 use crate::best;
 use crate::groups;
+use crate::lay::MAX_BLOCKS;
 use vectors::Kind;
+use vectors::MAX_VARIABLES;
+use vectors::MAX_WORDS;
 use vectors::Part;
 use vectors::Variable;
 
@@ -26,27 +33,6 @@ fn gather(vectors: &[u64], order: &[u16], words: &mut [u64])
     }
 }
 
-fn blank_variables() -> [Variable; 24]
-    ensures { λ r. ⌜ r ≡ placed [] ⌝ }
-{
-    [Variable {
-        kind: Kind::One(0),
-        part: Part::Row,
-    }; 24]
-}
-
-// No variable.
-pub(crate) fn none() -> Chosen
-    ensures { λ r. ⌜ r ≡ noneChosen ⌝ }
-{
-    let variables = blank_variables();
-    Chosen {
-        variables,
-        p: 0,
-        apart: false,
-    }
-}
-
 // The word with the later input of a variable alone.
 fn later(kind: Kind) -> u64
     ensures { λ r. ⌜ r ≡ laterOf kind ⌝ }
@@ -57,20 +43,19 @@ fn later(kind: Kind) -> u64
     }
 }
 
-// The variables by the rule: the best candidate until no two vectors agree or 24 are taken. In each group the two inputs of a variable
-// taken stay equal or stay different, so that the later one is tied: it tells apart what the earlier one does, and nothing else.
+// The variables by the rule. The items are large, so they are stored once and lent to each step.
 pub(crate) fn choose(vectors: &[u64], n: u8, degree: usize) -> Chosen
     requires { ⌜ (0 < n) × (n ≤ maxInputs) × (length (now vectors) ≤ maxVectors) ⌝ }
     ensures { λ r. ⌜ r ≡ chosenBy (now (vectors .entry)) n degree ⌝ }
 {
-    let mut words = [0u64; 1024];
+    let mut words = [0u64; MAX_WORDS];
     // What the items start with does not matter; ones are stored without a call of memset.
-    let mut items = [1u64; 5632];
-    let mut variables = blank_variables();
+    let mut items = [1u64; 64 * MAX_BLOCKS];
+    let mut variables = vectors::blank_variables();
     let mut groups = groups::all(vectors.len());
     let mut tied: u64 = 0;
     let mut p: usize = 0;
-    while p < 24 {
+    while p < MAX_VARIABLES {
         if groups.count == 0 {
             return Chosen {
                 variables,

@@ -1,14 +1,17 @@
-// The best candidate, by the pairs that each tells apart. A candidate is two inputs i < j, with 0 for none in a single input's place: so the
-// candidates' order is that of such pairs.
+// The best candidate: the more pairs it tells apart, the fewer it leaves. A candidate is two inputs i < j, with 0 for none in a single
+// input's place. Row 0 has the single inputs, row i the pairs of x_i with later inputs: one loop over the rows goes through the candidates
+// in the rule's order, so that of equals the first stays. It starts with x_1 as if that told nothing apart, which is right whatever x_1 tells.
+//
+// Candidates with a tied input are not judged (see rule), nor any row after a candidate that tells as much apart as any can.
 ghost use mathlib.Core.Path.{_≡_};
 ghost use Prim.Native.Nat.{_+_, _-_, _≤_, _<_};
 ghost use lib.Dec.{eqb};
 ghost use lib.ListN.{length};
 ghost use Rattle.vectors.specs.Bits.{input};
 ghost use Rattle.vectors.specs.Bounds.{maxInputs};
-ghost use Rattle.vectors.specs.Choice.{candidates, bestOf};
-ghost use Rattle.choice.specs.Judged.{Sheet, Sheets, gainAt, leftBy};
-ghost use Rattle.choice.specs.Search.{rank, betterOf, bestRows, noneBest, Above, Beaten, RowIs, rowsOf};
+ghost use Rattle.choice.specs.Choice.{candidates, bestOf};
+ghost use Rattle.choice.specs.Inner.Judged.{Sheet, Sheets, gainAt, leftBy};
+ghost use Rattle.choice.specs.Inner.Search.{rank, betterOf, Above, Beaten, RowIs, rowsOf};
 use crate::judge;
 use vectors::Kind;
 
@@ -55,7 +58,7 @@ fn better(
     }
 }
 
-// Input i with each later one; none is judged where i is tied.
+// Input i with each later one. None is judged where the best so far tells as much apart as any can, nor where i is tied.
 fn best_row(
     columns: &[u64],
     ends: &[u16],
@@ -70,6 +73,9 @@ fn best_row(
     requires { ⌜ Beaten tied (gainAt (now columns) (now ends) (length (now rests))) n × Above (gainAt (now columns) (now ends) (length (now rests))) n best (rank i (i + 1)) ⌝ }
     ensures { λ r. ⌜ RowIs (gainAt (now (columns .entry)) (now (ends .entry)) (length (now (rests .entry)))) n i best r ⌝ }
 {
+    if most <= best.gain {
+        return best;
+    }
     if is_tied(tied, i) {
         return best;
     }
@@ -78,36 +84,6 @@ fn best_row(
     while j <= n {
         b = better(columns, ends, rests, most, tied, i, j, b);
         j += 1;
-    }
-    b
-}
-
-// So many rows of n inputs, from that of input 0 on. None is tried after a candidate that tells as much apart as any can.
-fn best_rows(
-    columns: &[u64],
-    ends: &[u16],
-    rests: &[u64],
-    most: u64,
-    n: usize,
-    tied: u64,
-    rows: usize,
-) -> Best
-    requires { ⌜ (n ≤ maxInputs) × (rows ≤ n) × Sheets (now columns) (now ends) (now rests) most n ⌝ }
-    requires { ⌜ Beaten tied (gainAt (now columns) (now ends) (length (now rests))) n ⌝ }
-    ensures { λ r. ⌜ r ≡ bestRows (gainAt (now (columns .entry)) (now (ends .entry)) (length (now (rests .entry)))) n noneBest 0 rows ⌝ }
-{
-    let mut b = Best {
-        i: 0,
-        j: 1,
-        gain: 0,
-    };
-    let mut i = 0;
-    while i < rows {
-        if most <= b.gain {
-            return b;
-        }
-        b = best_row(columns, ends, rests, most, n, tied, i, b);
-        i += 1;
     }
     b
 }
@@ -137,15 +113,17 @@ pub(crate) fn best_of(
     ensures { λ r. ⌜ r ≡ bestOf (leftBy (now (columns .entry)) (now (ends .entry)) (length (now (rests .entry)))) (candidates n degree) ⌝ }
 {
     let inputs = n as usize;
-    let b = best_rows(
-        columns,
-        ends,
-        rests,
-        most,
-        inputs,
-        tied,
-        rows_of(inputs, degree),
-    );
+    let rows = rows_of(inputs, degree);
+    let mut b = Best {
+        i: 0,
+        j: 1,
+        gain: 0,
+    };
+    let mut i = 0;
+    while i < rows {
+        b = best_row(columns, ends, rests, most, inputs, tied, i, b);
+        i += 1;
+    }
     if b.i == 0 {
         Kind::One(b.j as u8)
     } else {

@@ -26,7 +26,7 @@ fn least(a: usize, b: usize) -> usize
 }
 
 fn write(text: &[u8], out: &mut [u8]) {
-    let k = least(text::answer(text, out), out.len());
+    let k = least(answer::answer(text, out), out.len());
     io::write_all(STDOUT_FILENO, &out[..k]);
 }
 

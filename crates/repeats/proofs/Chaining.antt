@@ -11,7 +11,7 @@ use lib.Dec.{eqb}
 use lib.ListN.{length, getD, take, set, replicate, length-set, length-replicate, getD-replicate}
 use lib.Seq.{length-take-le, getD-take, getD-set-same, getD-set-other}
 use borrow.Author.Tests.{eqb-true, eqb-false}
-use Rattle.lists.proofs.Repeats.{repeated-none, repeated-at}
+use Rattle.lists.proofs.Finding.Repeats.{repeated-none, repeated-at}
 use Rattle.vectors.specs.Bounds.{maxVectors}
 use Rattle.repeats.specs.Repeats.{repeatedIn}
 use Rattle.repeats.specs.Chains.{slots, slotOf, Latest, Linked, Seen}

@@ -5,6 +5,8 @@ ghost use lib.ListN.{length};
 ghost use Rattle.vectors.specs.Bounds.{maxVectors};
 ghost use Rattle.repeats.specs.Repeats.{repeatedIn};
 ghost use Rattle.repeats.specs.Chains.{slots, slotOf, Latest, Linked, Seen};
+use vectors::MAX_VECTORS;
+use vectors::MAX_WORDS;
 
 // The slot of a word: 11 bits that all 64 go into.
 fn slot(x: u64) -> usize
@@ -16,7 +18,7 @@ fn slot(x: u64) -> usize
 }
 
 // Whether x is among the words; from is the number of the latest in its slot.
-fn seen(words: &[u64], next: &[u16; 1024], from: usize, x: u64) -> bool
+fn seen(words: &[u64], next: &[u16; MAX_WORDS], from: usize, x: u64) -> bool
     requires { ⌜ (length (now words) ≤ maxVectors) × Linked (now words) (now next) (length (now words)) × Latest (now words) (length (now words)) from (slotOf x) ⌝ }
     ensures { λ r. ⌜ Seen (now (words .entry)) x r ⌝ }
 {
@@ -34,11 +36,11 @@ fn seen(words: &[u64], next: &[u16; 1024], from: usize, x: u64) -> bool
 pub fn first_repeat(words: &[u64]) -> usize
     ensures { λ r. ⌜ r ≡ repeatedIn (now (words .entry)) ⌝ }
 {
-    if 1023 < words.len() {
+    if MAX_VECTORS < words.len() {
         return 0;
     }
     let mut heads = [0u16; 2048];
-    let mut next = [0u16; 1024];
+    let mut next = [0u16; MAX_WORDS];
     let mut i = 0;
     while i < words.len() {
         let x = words[i];

@@ -10,19 +10,21 @@ use lib.Dec.{eqb}
 use lib.ListN.{length, getD}
 use borrow.Author.Tests.{lt-ltb}
 use Rattle.lists.specs.First.{has}
-use Rattle.lists.proofs.Has.{has-cons}
+use Rattle.lists.proofs.Finding.Has.{has-cons}
 use Rattle.rows.specs.Care.{Care, keep, inRow, weightOf}
-use Rattle.rows.specs.Fit.{cellOf, inside, at, none, firstFit}
-use Rattle.rows.specs.Place.{End, all, noFit, Placing, place}
+use Rattle.rows.specs.Fit.{cellOf, inside, firstFit}
+use Rattle.rows.specs.Place.{Placing, place}
 use Rattle.rows.specs.Demand.{filled, Ahead, Falling, Once, Smallest, Bounded, triesOf, boundOf, Spread, spread, Columns}
-use Rattle.rows.proofs.Bound.{first-fits}
-use Rattle.rows.proofs.Open.{open-none}
-use Rattle.rows.proofs.Turns.{Next, ended}
-use Rattle.rows.proofs.Order.{ordered}
-use Rattle.rows.proofs.Spreads.{spread-says, says-spread, spread-le}
-use Rattle.rows.proofs.Counts.{counted, tries-le}
-use Rattle.rows.proofs.Smallest.{stacked}
-use Rattle.rows.proofs.Cells.{cells-length}
+use Rattle.rows.specs.declared.End.{End}
+use Rattle.rows.specs.declared.End.the-variants.{All, NoFit, Unfit}
+use Rattle.rows.specs.declared.room.Fit.the-variants.{None}
+use Rattle.rows.proofs.Fits.Bound.{first-fits}
+use Rattle.rows.proofs.Placing.Open.{open-none}
+use Rattle.rows.proofs.Placing.Turns.{Next, ended, cells-length}
+use Rattle.rows.proofs.Placing.Order.{ordered}
+use Rattle.rows.proofs.Placing.Spreads.{spread-says, says-spread, spread-le}
+use Rattle.rows.proofs.Placing.Counts.{counted, tries-le}
+use Rattle.rows.proofs.Placing.Smallest.{stacked}
 
 ahead-le : (cs : List Care) (q r : ℕ) → Ahead cs q r → weightOf cs r ≤ weightOf cs q
 ahead-le cs q r a = ⊎-elim (λ l. omega arith) (λ e. omega (arith, e .0)) a
@@ -85,7 +87,7 @@ module _ (cs : List Care) (h g : List ℕ) where
   placed-weighs = ordered cs h g .weigh
 
   -- where the placing ends so, all rows with a weight are placed
-  pub all-placed : P .end ≡ all → (r : ℕ) → r < length h → 0 < weightOf cs r → has r (P .state .order) ≡ true
+  pub all-placed : P .end ≡ All → (r : ℕ) → r < length h → 0 < weightOf cs r → has r (P .state .order) ≡ true
   all-placed e r l w = open-none cs (P .state .order) r w (ended cs h g .none-left e r (omega (arith, ordered cs h g .size)))
 
   -- the others have displacement 0
@@ -104,7 +106,7 @@ module _ (cs : List Care) (h g : List ℕ) where
         go false m = omega (arith, others-zero zero i m)
 
     -- the row in its turn has a displacement where the cells number k and the columns
-    next-fits : (columns : ℕ) → k + columns ≤ length g → Columns columns cs → (r tried : ℕ) → Next cs (P .state) r → firstFit (P .state .g) (inRow r cs) ≡ none tried → ⊥
+    next-fits : (columns : ℕ) → k + columns ≤ length g → Columns columns cs → (r tried : ℕ) → Next cs (P .state) r → firstFit (P .state .g) (inRow r cs) ≡ None tried → ⊥
     unfolding weightOf
     next-fits columns l c r tried n f =
         let w = length (inRow r cs) * filled (P .state .g) in
@@ -117,12 +119,13 @@ module _ (cs : List Care) (h g : List ℕ) where
         omega arith
 
     -- every row fits where the cells number k and the columns at least
-    pub always-fits : (columns : ℕ) → k + columns ≤ length g → Columns columns cs → P .end ≡ all
+    pub always-fits : (columns : ℕ) → k + columns ≤ length g → Columns columns cs → P .end ≡ All
     always-fits columns l c = go (P .end) refl
       where
-        go : (e : End) → P .end ≡ e → P .end ≡ all
-        go all q = q
-        go (noFit r tried) q = let n = ended cs h g .no-fit r tried q in absurd (next-fits columns l c r tried (n .0) (n .1))
+        go : (e : End) → P .end ≡ e → P .end ≡ All
+        go All q = q
+        go (NoFit r tried) q = let n = ended cs h g .no-fit r tried q in absurd (next-fits columns l c r tried (n .0) (n .1))
+        go Unfit q = absurd (ended cs h g .not-unfit q)
 
 -- the test of the spread condition says it for every j
 pub spread-law : (k : ℕ) (cs : List Care) → (spread k cs ≡ true → Spread k cs) × (Spread k cs → spread k cs ≡ true)

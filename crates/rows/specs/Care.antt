@@ -1,4 +1,4 @@
--- What is placed: an index with its row and its column; the weight of a row, and the heaviest row.
+-- What is placed: vectors by their number, row and column; the weight of a row, and the heaviest row.
 use Prim.Native.Nat.{ℕ, zero, suc}
 use mathlib.Core.Bool.{Bool, true, false, cond}
 use mathlib.Core.List.{List, [], _∷_}
@@ -6,10 +6,16 @@ use lib.Dec.{eqb, ltb}
 use lib.ListN.{length}
 use Rattle.lists.specs.First.{has}
 
+-- a vector: its index, and where it stands in the chart
 pub record Care : Type 0 where
   pub index : ℕ
   pub row : ℕ
   pub column : ℕ
+
+-- the entries as vectors: a row and a column for each, the first with the number i
+unfoldable pub caresBy : (ℕ → ℕ) → (ℕ → ℕ) → ℕ → List ℕ → List Care
+caresBy row column i [] = []
+caresBy row column i (x ∷ xs) = record { index = i; row = row x; column = column x } ∷ caresBy row column (suc i) xs
 
 abbrev pub keep : Bool → Care → List Care → List Care
 keep true c cs = c ∷ cs
@@ -20,7 +26,7 @@ unfoldable pub inRow : ℕ → List Care → List Care
 inRow r [] = []
 inRow r (c ∷ cs) = keep (eqb (c .row) r) c (inRow r cs)
 
--- "The weight of a row is the number of vectors in it."
+-- a row weighs as many vectors as it has (SCOPE 7.1)
 unfoldable pub weightOf : List Care → ℕ → ℕ
 unfolding inRow
 weightOf cs r = length (inRow r cs)
@@ -37,7 +43,7 @@ pub record Heavy : Type 0 where
 abbrev pub heavier : ℕ → ℕ → Heavy → Heavy
 heavier r w b = cond (ltb (b .weight) w) (record { row = r; weight = w }) b
 
--- "by falling weight, equal weights by rising row number": of the rows below n the heaviest, the lowest of equals; weight 0 where none has a weight
+-- of the rows below n the heaviest, of equals the lowest (SCOPE 7.2); weight 0 where none has a weight
 unfoldable pub heaviest : (ℕ → ℕ) → ℕ → Heavy
 heaviest weight zero = record { row = 0; weight = 0 }
 heaviest weight (suc n) = heavier n (weight n) (heaviest weight n)

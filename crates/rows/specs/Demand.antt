@@ -15,7 +15,7 @@ unfoldable pub filled : List ℕ → ℕ
 filled [] = 0
 filled (w ∷ ws) = cond (eqb w 0) 0 1 + filled ws
 
--- "Rows with weight above 0 are placed by falling weight, equal weights by rising row number": q comes before r
+-- q comes before r: it is heavier, or as heavy and lower (SCOPE 7.2)
 abbrev pub Ahead : List Care → ℕ → ℕ → Type 0
 Ahead cs q r = (weightOf cs r < weightOf cs q) ⊎ ((weightOf cs q ≡ weightOf cs r) × (q < r))
 
@@ -43,7 +43,7 @@ unfolding put inRow
 cellsOf cs h g [] = g
 cellsOf cs h g (r ∷ before) = put (cellsOf cs h g before) (getD h r 0) (inRow r cs)
 
--- "Each occupied row's displacement is the smallest that clears the rows before it"; g: the cells at the start
+-- each row placed fits beside those before it at its displacement and at no smaller one (SCOPE 16.3); g: the cells at the start
 unfoldable pub Smallest : List Care → List ℕ → List ℕ → List ℕ → Type 0
 unfolding cellsOf fitsAt
 Smallest cs h g [] = Unit
@@ -52,30 +52,30 @@ Smallest cs h g (r ∷ before) =
     × ((e : ℕ) → e < getD h r 0 → fitsAt (cellsOf cs h g before) e (inRow r cs) ≡ false)
     × Smallest cs h g before
 
--- ".. and at most the row's vectors times the vectors placed before"; what stands in the cells at the start counts with these
+-- no displacement exceeds the row's weight times how many vectors were placed before it (SCOPE 16.3); what stands in the cells at the start counts with these
 unfoldable pub Bounded : List Care → List ℕ → ℕ → List ℕ → Type 0
 unfolding weightOf countIn
 Bounded cs h start [] = Unit
 Bounded cs h start (r ∷ before) = (getD h r 0 ≤ weightOf cs r * (start + countIn before cs)) × Bounded cs h start before
 
--- "Tries are the sum of displacement plus one over occupied rows."
+-- each displacement and one more, summed over the rows placed (SCOPE 16.5)
 unfoldable pub triesOf : List ℕ → List ℕ → ℕ
 triesOf h [] = 0
 triesOf h (r ∷ before) = suc (getD h r 0) + triesOf h before
 
--- demand 3's bound of the tries: each displacement's bound plus one
+-- the bound of the tries: each displacement's bound and one more, summed (SCOPE 16.5)
 unfoldable pub boundOf : List Care → ℕ → List ℕ → ℕ
 unfolding weightOf countIn
 boundOf cs start [] = 0
 boundOf cs start (r ∷ before) = suc (weightOf cs r * (start + countIn before cs)) + boundOf cs start before
 
--- "the vectors in rows holding more than j"
+-- how many of the vectors lie in rows heavier than j
 unfoldable pub heavierIn : ℕ → List Care → List Care → ℕ
 unfolding weightOf
 heavierIn j all [] = 0
 heavierIn j all (c ∷ cs) = cond (ltb j (weightOf all (c .row))) 1 0 + heavierIn j all cs
 
--- "for every j >= 0, (j+1) times the vectors in rows holding more than j is at most k"
+-- the spread condition: rows heavier than j have k / (j + 1) vectors at the most, for every j (SCOPE 16.4)
 abbrev pub Spread : ℕ → List Care → Type 0
 Spread k cs = (j : ℕ) → suc j * heavierIn j cs cs ≤ k
 

@@ -5,12 +5,14 @@ use mathlib.Core.List.{List, [], _∷_}
 use lib.Dec.{eqb, ltb}
 use lib.ListN.{length, getD, set}
 use Rattle.rows.specs.Care.{Care}
+use Rattle.rows.specs.declared.room.Fit.{Fit}
+use Rattle.rows.specs.declared.room.Fit.the-variants.{At, None}
 
--- "the cell c + d": "The addition is plain, with no wrap."
+-- where a column lies at a displacement: the sum, which never comes round (SCOPE 7.4)
 abbrev pub cellOf : Care → ℕ → ℕ
 cellOf c d = c .column + d
 
--- a cell is "not yet taken" while its word is 0; past the cells every cell is free
+-- a cell is free while its word is 0; past the cells every cell is free
 abbrev pub isFree : List ℕ → ℕ → Bool
 isFree g cell = eqb (getD g cell 0) 0
 
@@ -19,32 +21,27 @@ unfoldable pub inside : ℕ → ℕ → List Care → Bool
 inside cells d [] = true
 inside cells d (c ∷ cs) = ltb (cellOf c d) cells && inside cells d cs
 
--- each column's cell is not yet taken
+-- each column's cell is free
 unfoldable pub clear : List ℕ → ℕ → List Care → Bool
 clear g d [] = true
 clear g d (c ∷ cs) = isFree g (cellOf c d) && clear g d cs
 
--- the row fits at d: "for each of its columns c the cell c + d is below L and not yet taken"
+-- the row fits at d: every column of it has a cell there, and a free one (SCOPE 7.3)
 unfoldable pub fitsAt : List ℕ → ℕ → List Care → Bool
 unfolding inside clear
 fitsAt g d cs = inside (length g) d cs && clear g d cs
 
--- the displacement found; or none, after so many tried: those that keep every column below the number of cells
-pub data Fit : Type 0 where
-  at : ℕ → Fit
-  none : ℕ → Fit
-
--- from d on, f of them tried at the most
+-- the displacement found, or none after so many tried, which are those that keep every column below the number of cells; from d on, f of them at the most
 unfoldable pub fitFrom : ℕ → ℕ → List ℕ → List Care → Fit
 unfolding inside clear
-fitFrom zero d g cs = none d
+fitFrom zero d g cs = None d
 fitFrom (suc f) d g cs =
     elim (inside (length g) d cs) [
-      | false ↦ none d
-      | true ↦ elim (clear g d cs) [ true ↦ at d | false ↦ fitFrom f (suc d) g cs ]
+      | false ↦ None d
+      | true ↦ elim (clear g d cs) [ true ↦ At d | false ↦ fitFrom f (suc d) g cs ]
     ]
 
--- "the smallest displacement d, from 0"; no row but an empty one, which fits at 0, stays below L further than L
+-- displacements are tried upwards from 0 (SCOPE 7.3); past as many as there are cells no row stays inside but an empty one, which fits at 0
 unfoldable pub firstFit : List ℕ → List Care → Fit
 unfolding fitFrom
 firstFit g cs = fitFrom (suc (length g)) 0 g cs

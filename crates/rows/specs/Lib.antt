@@ -2,3 +2,5 @@ pub mod Care
 pub mod Fit
 pub mod Place
 pub mod Demand
+pub mod Answer
+pub mod Inner

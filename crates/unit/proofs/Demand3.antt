@@ -10,21 +10,22 @@ use Rattle.vectors.specs.declared.Kind.the-variants.{One}
 use Rattle.vectors.specs.declared.Part.the-variants.{Row}
 use Rattle.vectors.specs.declared.Variable.{Variable}
 use Rattle.vectors.specs.Variable.{kindsOf}
-use Rattle.vectors.specs.Choice.{choose}
+use Rattle.choice.specs.Choice.{choose}
 use Rattle.rows.specs.Care.{Care}
-use Rattle.rows.specs.Place.{all}
+use Rattle.rows.specs.declared.End.the-variants.{All}
 use Rattle.rows.specs.Demand.{Spread, spread}
-use Rattle.rows.proofs.Filled.{filled-blank, blank-zero}
+use Rattle.rows.proofs.Fits.Filled.{filled-blank, blank-zero}
 use Rattle.rows.proofs.Demand3 as placing
-use Rattle.unit.specs.Record.{rowsShare, unitOf}
-use Rattle.unit.specs.Refusals.{Refusal}
-use Rattle.unit.specs.Build.{Tables, Outcome, caresFrom, placingOf, outcome, chosenRefusal, buildChosen, givenRefusal, buildGiven}
+use Rattle.build.specs.Build.{rowsShare, Outcome, caresFrom, placingOf, outcome, chosenRefusal, buildChosen, givenRefusal, buildGiven, chosenKinds}
+use Rattle.record.specs.Record.{recordOf}
+use Rattle.build.specs.declared.Refusal.{Refusal}
+use Rattle.record.specs.Tables.{Tables}
 use Rattle.unit.specs.Demand2.{ChosenBuild, GivenBuild}
-use Rattle.unit.specs.Demand3.{Shifted, displacements, Demand3, chosenKinds, Demand3Chosen, Demand3Given}
+use Rattle.unit.specs.Demand3.{Shifted, displacements, Demand3, Demand3Chosen, Demand3Given}
 use Rattle.unit.specs.Samples.{S, nines}
-use Rattle.unit.proofs.Demands.Finish.{acceptedOutcome, outcome-accepted, accepted-outcome, placing-rows}
-use Rattle.unit.proofs.Demands.Cares.{cares-columns}
-use Rattle.unit.proofs.Demands.Tries.{tries-one}
+use Rattle.build.proofs.Holding.Ends.{acceptedOutcome, outcome-accepted, accepted-outcome, placing-rows}
+use Rattle.build.proofs.Holding.Cares.{cares-columns}
+use Rattle.unit.proofs.Tries.{tries-one}
 
 module _ (n1 : ℕ) (ks : List Kind) (cells : ℕ) (vs : List ℕ) where
   abbrev cs : List Care
@@ -37,7 +38,7 @@ module _ (n1 : ℕ) (ks : List Kind) (cells : ℕ) (vs : List ℕ) where
   abbrev g : List ℕ
   g = replicate cells 0
 
-  placing-shifted : placingOf n1 ks cells vs .end ≡ all → Shifted (caresFrom 1 n1 ks vs) (2 ^ n1) cells (placingOf n1 ks cells vs .state .h) (placingOf n1 ks cells vs .state .tries)
+  placing-shifted : placingOf n1 ks cells vs .end ≡ All → Shifted (caresFrom 1 n1 ks vs) (2 ^ n1) cells (placingOf n1 ks cells vs .state .h) (placingOf n1 ks cells vs .state .tries)
   unfolding placingOf
   placing-shifted e =
       let s : length h ≡ 2 ^ n1 = length-replicate (2 ^ n1) 0 in
@@ -59,7 +60,7 @@ module _ (n1 : ℕ) (ks : List Kind) (cells : ℕ) (vs : List ℕ) where
   unfolding placingOf
   placing-low s = placing.none-exceeds cs h g (length vs) s (filled-blank cells) (blank-zero (2 ^ n1))
 
-  placing-fits : Spread (length vs) (caresFrom 1 n1 ks vs) → length vs + 2 ^ (length ks - n1) ≤ cells → placingOf n1 ks cells vs .end ≡ all
+  placing-fits : Spread (length vs) (caresFrom 1 n1 ks vs) → length vs + 2 ^ (length ks - n1) ≤ cells → placingOf n1 ks cells vs .end ≡ All
   unfolding placingOf
   placing-fits s l =
       placing.always-fits cs h g (length vs) s (filled-blank cells) (2 ^ (length ks - n1))
@@ -70,7 +71,7 @@ module _ (n1 : ℕ) (ks : List Kind) (cells : ℕ) (vs : List ℕ) where
   displacements-are n t = take-at (placingOf n1 ks cells vs .state .h) (drop (length (placingOf n1 ks cells vs .state .h)) (t .h)) (2 ^ n1) (placing-rows n1 ks cells vs)
 
   outcome-demand-3 : (r : Refusal) (n : ℕ) (t : Tables) → Demand3 r n1 ks cells vs (outcome r n n1 ks cells vs t)
-  unfolding unitOf
+  unfolding recordOf
   outcome-demand-3 r n t =
       record {
         shifted = λ z. let a = outcome-accepted n n1 ks cells vs t r z in rw (a .is, displacements-are n t) (placing-shifted (a .placed));
@@ -99,7 +100,7 @@ refuses-everything-fails build never d =
     never 6 1 2 (16 ∷ []) (nines 1 2 2)
     (d 6 1 2 (16 ∷ []) (nines 1 2 2) .always-fits refl (placing.spread-law 1 (caresFrom 1 0 [] (16 ∷ [])) .0 refl) (omega arith))
 
--- 0, 1, 2, 3 with n = 3, rows x_1, x_2, column x_3, L = 6, as document 01 has it
+-- 0, 1, 2, 3 with n = 3, rows x_1, x_2, column x_3, L = 6 (SCOPE 15.8)
 pub refuses-everything-given-fails : (build : GivenBuild)
     → ((n : ℕ) (variables : List Variable) (p n1 cells : ℕ) (vs : List ℕ) (t : Tables) → build n variables p n1 cells vs t .built .refusal ≡ 0 → ⊥)
     → Demand3Given build → ⊥

@@ -1,10 +1,3 @@
-pub mod Bounds
-pub mod Record
-pub mod Refusals
-pub mod Build
-pub mod Lookup
-pub mod Recover
 pub mod Demand2
 pub mod Demand3
-pub mod Inner
 pub mod Samples

@@ -1,4 +1,4 @@
--- The * cases of document 01, "Sample units and edges", computed: one table, a field for each line of the page, and one claim, at the end.
+-- The sample units of SCOPE 15, computed: one table, a field for each case, and one claim, at the end.
 use mathlib.Core.Path.{_≡_, refl}
 use mathlib.Core.Bool.{true}
 use mathlib.Core.List.{List, [], _∷_, _++_, map}
@@ -9,15 +9,17 @@ use Rattle.vectors.specs.declared.Kind.{Kind}
 use Rattle.vectors.specs.declared.Kind.the-variants.{One, Two}
 use Rattle.vectors.specs.declared.Part.the-variants.{Row, Column}
 use Rattle.vectors.specs.declared.Variable.{Variable}
-use Rattle.vectors.specs.Choice.{choose, left}
+use Rattle.choice.specs.Choice.{choose, left}
 use Rattle.rows.specs.Demand.{spread}
-use Rattle.unit.specs.Bounds.{maxVariables}
-use Rattle.unit.specs.Record.{blankVariable, blankUnit}
-use Rattle.unit.specs.Build.{Tables, Outcome, buildChosen, buildGiven, caresFrom}
-use Rattle.unit.specs.Lookup.{found, lookupOf}
-use Rattle.unit.specs.Recover.{recovered, recoverOf}
+use Rattle.vectors.specs.Bounds.{maxVariables}
+use Rattle.vectors.specs.Variable.{blankVariable}
+use Rattle.record.specs.Record.{blankRecord}
+use Rattle.record.specs.Tables.{Tables, lent}
+use Rattle.build.specs.Build.{Outcome, buildChosen, buildGiven, caresFrom, after}
+use Rattle.lookup.specs.Lookup.{found, lookupOf}
+use Rattle.recover.specs.Recover.{recovered, recoverOf}
 
--- "The list S is 16, 18, 20, 28, 32, 55, 58 (document 004, Table 2.1), n = 6."
+-- SCOPE 15.1: the list S, of 6 bits
 abbrev pub S : List ℕ
 S = 16 ∷ 18 ∷ 20 ∷ 28 ∷ 32 ∷ 55 ∷ 58 ∷ []
 
@@ -40,7 +42,7 @@ abbrev lefts : List ℕ → List Kind → List Kind → List ℕ
 lefts vs taken [] = []
 lefts vs taken (k ∷ ks) = left vs (taken ++ (k ∷ [])) ∷ lefts vs (taken ++ (k ∷ [])) ks
 
--- the unit of the page, lent a word more in each table; and refusals that leave tables
+-- the unit that the program prints, lent a word more in each table; and refusals that leave tables
 abbrev printed : ℕ → Outcome
 printed cells = buildChosen 6 2 cells S (nines 5 8 9)
 
@@ -48,13 +50,13 @@ abbrev table41 : ℕ → Outcome
 table41 cells = buildGiven 6 (given (One 4 ∷ One 5 ∷ One 6 ∷ One 1 ∷ One 2 ∷ One 3 ∷ [])) 6 3 cells S (nines 9 9 9)
 
 abbrev refusal : ℕ → ℕ → Tables → Outcome
-refusal number place t = record { built = record { refusal = number; place = place; unit = blankUnit }; tables = t }
+refusal number place t = record { built = record { refusal = number; place = place; unit = blankRecord }; tables = t }
 
 pub record Table : Type 0 where
-  -- "S, degree 1: x_2, x_3, x_4, x_5; pairs left 9, 3, 1, 0."
+  -- SCOPE 15.2: four single inputs, and the pairs that each leaves
   pub degree-1 : choose maxVariables 6 1 S ≡ One 2 ∷ One 3 ∷ One 4 ∷ One 5 ∷ []
   pub degree-1-left : lefts S [] (choose maxVariables 6 1 S) ≡ 9 ∷ 3 ∷ 1 ∷ 0 ∷ []
-  -- "S, degree 2: x_2, x_3, x_4 XOR x_5, as printed above."
+  -- SCOPE 15.3: the unit that the program prints
   pub degree-2 : printed 7 ≡ record {
     built = record {
       refusal = 0;
@@ -77,13 +79,13 @@ pub record Table : Type 0 where
       aux = 0 ∷ 0 ∷ 1 ∷ 2 ∷ 10 ∷ 16 ∷ 23 ∷ 25 ∷ 9 ∷ [];
     };
   }
-  -- "That unit with L = 6: refusal 13, place 3."
+  -- SCOPE 15.4: one cell less
   pub cells-6 : printed 6 ≡ refusal 13 3 (record { h = replicate 4 0 ++ (9 ∷ []); g = replicate 6 0 ++ (9 ∷ 9 ∷ []); aux = replicate 8 0 ++ (9 ∷ []) })
-  -- "That unit: lookup of 6 is 0; lookup of 20 is 3; recovery of 7 is 58."
+  -- SCOPE 15.5: two keys and an index
   pub lookup-6 : lookupOf (printed 7 .built .unit) (printed 7 .tables) 6 ≡ found 0
   pub lookup-20 : lookupOf (printed 7 .built .unit) (printed 7 .tables) 20 ≡ found 3
   pub recover-7 : recoverOf (printed 7 .built .unit) (printed 7 .tables) 7 ≡ recovered 58
-  -- "S, given x_4, x_5, x_6 as rows and x_1, x_2, x_3 as columns, L = 8: H .., G .. (document 000, Table 4.1), AUX .., tries 8."
+  -- SCOPE 15.6: three rows and three columns, given
   pub given-8 : table41 8 ≡ record {
     built = record {
       refusal = 0;
@@ -106,10 +108,10 @@ pub record Table : Type 0 where
       aux = 0 ∷ 2 ∷ 2 ∷ 2 ∷ 3 ∷ 4 ∷ 6 ∷ 7 ∷ 9 ∷ [];
     };
   }
-  -- "The same with L = 7: refusal 13, place 6; with L = 5: refusal 13, place 3."
+  -- SCOPE 15.7: with fewer cells
   pub given-7 : table41 7 .built ≡ refusal 13 6 (nines 0 0 0) .built
   pub given-5 : table41 5 .built ≡ refusal 13 3 (nines 0 0 0) .built
-  -- "0, 1, 2, 3 with n = 3, rows x_1, x_2, column x_3, L = 6: H 0 1 2 3, G 1 2 3 4 0 0, tries 10. Demand 3's spread condition holds."
+  -- SCOPE 15.8: a list that is spread out
   pub spread-out : buildGiven 3 (given (One 1 ∷ One 2 ∷ One 3 ∷ [])) 3 2 6 (0 ∷ 1 ∷ 2 ∷ 3 ∷ []) (nines 4 6 5) ≡ record {
     built = record {
       refusal = 0;
@@ -129,7 +131,7 @@ pub record Table : Type 0 where
     tables = record { h = 0 ∷ 1 ∷ 2 ∷ 3 ∷ []; g = 1 ∷ 2 ∷ 3 ∷ 4 ∷ 0 ∷ 0 ∷ []; aux = 0 ∷ 0 ∷ 1 ∷ 2 ∷ 3 ∷ [] };
   }
   pub spread-holds : spread 4 (caresFrom 1 2 (One 1 ∷ One 2 ∷ One 3 ∷ []) (0 ∷ 1 ∷ 2 ∷ 3 ∷ [])) ≡ true
-  -- "16 alone, n = 6, degree 1, L = 1: p = 0, H 0, G 1, AUX 0 16, tries 1, excess -1."
+  -- SCOPE 15.9: one vector, no variables
   pub alone : buildChosen 6 1 1 (16 ∷ []) (nines 1 1 2) ≡ record {
     built = record {
       refusal = 0;
@@ -148,10 +150,10 @@ pub record Table : Type 0 where
     };
     tables = record { h = 0 ∷ []; g = 1 ∷ []; aux = 0 ∷ 16 ∷ [] };
   }
-  -- "5, 5: refusal 7, place 2. 64 with n = 6: refusal 6, place 1."
+  -- SCOPE 15.10: a vector twice, and one with a bit too many
   pub equal : buildChosen 6 1 1 (5 ∷ 5 ∷ []) (nines 1 1 3) ≡ refusal 7 2 (nines 1 1 3)
   pub beyond : buildChosen 6 1 1 (64 ∷ []) (nines 1 1 2) ≡ refusal 6 1 (nines 1 1 2)
-  -- "No vectors: refusal 3."
+  -- SCOPE 15.11: no vectors
   pub empty : buildChosen 6 1 1 [] (nines 1 1 1) ≡ refusal 3 0 (nines 1 1 1)
 
 pub samples : Table

@@ -1,13 +1,3 @@
-pub mod BitsLaws
-pub mod BitSet
-pub mod Numbers
-pub mod Packing
-pub mod Runs
-pub mod WordLaws
-pub mod Xor
-pub mod Spans
-pub mod Choice
-pub mod Labels
-pub mod Unique
-pub mod Independent
-pub mod Vector
+pub mod Bits
+pub mod Variables
+pub mod Words

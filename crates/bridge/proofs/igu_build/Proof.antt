@@ -1,6 +1,6 @@
 -- `bridge::igu_build` meets its contract. Assumes nothing.
 use mathlib.Core.Path.{_∙_}
-use Rattle.unit.proofs.Places.{chosen-place}
+use Rattle.build.proofs.Places.{chosen-place}
 use Rattle.bridge.proofs.Answers.{place-fits, left-is, build-left}
 use borrow.Author.Needs.{needs}
 use Rattle.bridge.proofs.igu_build.Statement.{statement}

@@ -2,7 +2,7 @@
 use Prim.Native.Nat.{ℕ}
 use mathlib.Core.Path.{_∙_}
 use mathlib.Core.List.{List}
-use Rattle.unit.proofs.Places.{given-place}
+use Rattle.build.proofs.Places.{given-place}
 use Rattle.bridge.proofs.Words.{counted-all-range, counted-all-variables}
 use Rattle.bridge.proofs.Answers.{place-fits, left-is, given-left}
 use borrow.Author.Needs.{needs}

@@ -3,7 +3,7 @@ use mathlib.Core.Path.{_≡_, sym, ap, _∙_}
 use mathlib.Core.Bool.{true}
 use mathlib.Core.List.{_∷_, []}
 use borrow.Author.Tests.{not-true, not-false}
-use Rattle.unit.specs.declared.Recovered.{Recovered}
+use Rattle.recover.specs.declared.Recovered.{Recovered}
 use Rattle.bridge.specs.Flat.{variableWords, allInRange}
 use Rattle.bridge.proofs.Answers.{recovered-unread, recovered-read}
 use borrow.Author.Needs.{needs}

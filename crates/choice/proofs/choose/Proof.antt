@@ -1,44 +1,37 @@
 -- `choice::choose` meets its contract. Assumes nothing.
-use borrow.Author.Needs.{needs}
-use native.Mathlib.Omega.{arith}
-use mathlib.Core.Path.{_∙_}
-use Rattle.choice.proofs.Choosing.{no-inputs, many-inputs, many-vectors, by-rule}
+use Prim.Native.Nat.{_≤_, _<_}
+use mathlib.Core.Path.{sym, _∙_}
+use mathlib.Core.Logic.{⊎-elim}
+use lib.ListN.{length}
+use Rattle.vectors.specs.Bounds.{maxInputs, maxVectors}
+use Rattle.choice.proofs.Choosing.Places.{past-inputs, past-vectors, within, by-rule}
 use Rattle.choice.proofs.choose.Statement.{statement}
 use Rattle.choice.proofs.choose.Tie as tie
 
-none-requires : tie.Need-none-requires
-none-requires c κs = search needs
+outside-requires : tie.Need-outside-requires
+outside-requires c κs = tt
+
+blank-variables-requires : tie.Need-blank-variables-requires
+blank-variables-requires c κs = tt
 
 returns : tie.Need-returns
-returns c = c .none .ensures ∙ no-inputs _ _ _ (c .before .if1 .taken)
+returns c =
+    rw (c .«blank-variables» .ensures)
+    (⊎-elim (λ w. past-inputs _ _ _ (sym (c .before .before .outside .ensures) ∙ w .taken)) (λ w. past-vectors _ _ _ (w .1 .taken)) (c .before .if1 .came))
 
-none-requires-2 : tie.Need-none-requires-2
-none-requires-2 c κs = search needs
-
-returns-2 : tie.Need-returns-2
-returns-2 c = c .none2 .ensures ∙ many-inputs _ _ _ (c .before .if2 .taken)
-
-none-requires-3 : tie.Need-none-requires-3
-none-requires-3 c κs = search needs
-
-returns-3 : tie.Need-returns-3
-returns-3 c = c .none3 .ensures ∙ many-vectors _ _ _ (c .before .if3 .taken)
+-- within the bounds
+inside : (c : tie.Else2)
+    → let a = c .before .before .before .before .args in
+    (0 < a .n) × (a .n ≤ maxInputs) × (length (a .vectors .now) ≤ maxVectors)
+inside c = within (c .before .before .before .before .args .vectors .now) _ (sym (c .before .before .outside .ensures) ∙ c .before .if1 .left) (c .if2 .left)
 
 choose-requires : tie.Need-choose-requires
-choose-requires c κs = search needs
+choose-requires c κs = inside c
 
-returns-4 : tie.Need-returns-4
-returns-4 c = c .choose .ensures ∙ by-rule _ _ _ (omega arith) (omega arith) (omega arith)
+returns-2 : tie.Need-returns-2
+returns-2 c = let (some, inputs, few) = inside (c .before) in c .choose .ensures ∙ by-rule _ _ _ some inputs few
 
 pub choose-spec : {M : Type 1} → statement M
 choose-spec =
     tie.close
-    (tie.spec
-    none-requires
-    returns
-    none-requires-2
-    returns-2
-    none-requires-3
-    returns-3
-    choose-requires
-    returns-4)
+    (tie.spec outside-requires blank-variables-requires returns choose-requires returns-2)

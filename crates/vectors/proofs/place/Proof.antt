@@ -5,7 +5,7 @@ use native.Mathlib.Nat.{one-mul}
 use native.Mathlib.Omega.{arith}
 use mathlib.Core.Path.{sym, _∙_}
 use lib.Pow.{shl-exact}
-use Rattle.vectors.proofs.BitsLaws.{place-in, place-out}
+use Rattle.vectors.proofs.Bits.Laws.{place-in, place-out}
 use Rattle.vectors.specs.Bounds.{maxInputs}
 use Rattle.vectors.proofs.place.Statement.{statement}
 use Rattle.vectors.proofs.place.Tie as tie

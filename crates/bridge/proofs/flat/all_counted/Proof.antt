@@ -6,8 +6,8 @@ use mathlib.Core.Path.{_≡_, refl, sym, ap, _∙_}
 use mathlib.Core.List.{map}
 use lib.ListN.{length, take, length-set}
 use lib.Seq.{take-all}
-use Rattle.lists.proofs.Mapped.{mapped-more}
-use Rattle.bridge.specs.Inner.{countedAs}
+use Rattle.lists.proofs.Writing.Mapped.{mapped-more}
+use Rattle.bridge.specs.Inner.Counted.{countedAs}
 use Rattle.bridge.proofs.flat.all_counted.Statement.{statement}
 use Rattle.bridge.proofs.flat.all_counted.Tie as tie
 

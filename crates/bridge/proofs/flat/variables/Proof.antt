@@ -6,7 +6,7 @@ use mathlib.Core.Path.{_≡_, refl, sym, ap, _∙_}
 use mathlib.Core.List.{map}
 use lib.ListN.{length, take, length-set}
 use lib.Seq.{take-all}
-use Rattle.lists.proofs.Mapped.{mapped-more}
+use Rattle.lists.proofs.Writing.Mapped.{mapped-more}
 use Rattle.bridge.specs.Flat.{variableAt}
 use Rattle.bridge.proofs.Words.{range-at}
 use Rattle.bridge.proofs.flat.variables.Statement.{statement}
@@ -18,11 +18,11 @@ Inv-loop words v₀ i₀ v i = (i ≤ 24) × (length v ≡ 24) × (take i v ≡ 
 abbrev μ-loop : tie.MeasureT-loop
 μ-loop words v₀ i₀ v i = 24 - i
 
-blank-requires : tie.Need-blank-requires Inv-loop μ-loop
-blank-requires c κs = tt
+blank-variables-requires : tie.Need-blank-variables-requires Inv-loop μ-loop
+blank-variables-requires c κs = tt
 
 loop-holds : tie.Need-loop-holds Inv-loop μ-loop
-loop-holds c = (omega arith, refl, refl)
+loop-holds c = (omega arith, ap length (c .blank-variables .ensures), refl)
 
 mul-variable-at : tie.Need-mul-variable-at Inv-loop μ-loop
 mul-variable-at c = search needs
@@ -57,7 +57,7 @@ variables-spec =
     (tie.spec
     Inv-loop
     μ-loop
-    blank-requires
+    blank-variables-requires
     loop-holds
     mul-variable-at
     shared-slice-read-variable-at

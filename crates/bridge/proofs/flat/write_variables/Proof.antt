@@ -6,7 +6,7 @@ use mathlib.Core.Path.{_≡_, refl, sym, ap, _∙_}
 use mathlib.Core.List.{map}
 use lib.ListN.{length, take, length-set}
 use lib.Seq.{take-all}
-use Rattle.lists.proofs.Mapped.{mapped-more}
+use Rattle.lists.proofs.Writing.Mapped.{mapped-more}
 use Rattle.bridge.specs.Flat.{variableWord}
 use Rattle.bridge.proofs.flat.write_variables.Statement.{statement}
 use Rattle.bridge.proofs.flat.write_variables.Tie as tie

@@ -3,8 +3,8 @@ use borrow.Author.Needs.{needs}
 use native.Mathlib.Omega.{arith}
 use mathlib.Core.Path.{refl, sym, ap, _∙_}
 use lib.ListN.{length}
-use Rattle.choice.proofs.Halves.{halves-low}
-use Rattle.choice.proofs.Answered.{rests-size, made-sheets, made-beaten, made-best}
+use Rattle.choice.proofs.Counting.Halves.{halves-low}
+use Rattle.choice.proofs.Searching.Answered.{rests-size, made-sheets, made-beaten, made-best}
 use Rattle.choice.proofs.best.best.Statement.{statement}
 use Rattle.choice.proofs.best.best.Tie as tie
 

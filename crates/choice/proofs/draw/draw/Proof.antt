@@ -3,7 +3,7 @@ use borrow.Author.Needs.{needs}
 use Prim.Native.Nat.{_+_, _-_, _*_, _≤_}
 use native.Mathlib.Omega.{arith}
 use mathlib.Core.Path.{_≡_, sym, _∙_}
-use Rattle.choice.proofs.Drawing.{Drawing, drawing-none, drawing-more}
+use Rattle.choice.proofs.Laying.Drawing.{Drawing, drawing-none, drawing-more}
 use Rattle.choice.proofs.draw.draw.Statement.{statement}
 use Rattle.choice.proofs.draw.draw.Tie as tie
 
@@ -22,20 +22,20 @@ mul-from c = search needs
 add-to : tie.Need-add-to Inv-loop μ-loop
 add-to c = search needs
 
-mul-turn : tie.Need-mul-turn Inv-loop μ-loop
-mul-turn c = search needs
+mul-transpose : tie.Need-mul-transpose Inv-loop μ-loop
+mul-transpose c = search needs
 
-sub-turn : tie.Need-sub-turn Inv-loop μ-loop
-sub-turn c = search needs
+sub-transpose : tie.Need-sub-transpose Inv-loop μ-loop
+sub-transpose c = search needs
 
-part-turn-start : tie.Need-part-turn-start Inv-loop μ-loop
-part-turn-start c = search needs
+part-transpose-start : tie.Need-part-transpose-start Inv-loop μ-loop
+part-transpose-start c = search needs
 
-part-turn-end : tie.Need-part-turn-end Inv-loop μ-loop
-part-turn-end c = omega (arith, c .before .loop .inv .1 .drawn .size, c .before .before .before .pre .1)
+part-transpose-end : tie.Need-part-transpose-end Inv-loop μ-loop
+part-transpose-end c = omega (arith, c .before .loop .inv .1 .drawn .size, c .before .before .before .pre .1)
 
-turn-requires : tie.Need-turn-requires Inv-loop μ-loop
-turn-requires c κs = search needs
+transpose-requires : tie.Need-transpose-requires Inv-loop μ-loop
+transpose-requires c κs = search needs
 
 add-w : tie.Need-add-w Inv-loop μ-loop
 add-w c = search needs
@@ -48,7 +48,7 @@ loop-again c =
     let l = c .before .before .before .before .before .loop in
     let p = c .before .before .before .before .before .before .before .pre in
     let d : 64 * l .w + 64 - 64 * l .w ≡ 64 = omega arith in
-    (omega arith, rw d (drawing-more _ (l .items) _ (l .w) (omega (arith, p .1)) (rw d at (c .before .before .turn .ensures)) (l .inv .1)))
+    (omega arith, rw d (drawing-more _ (l .items) _ (l .w) (omega (arith, p .1)) (rw d at (c .before .before .transpose .ensures)) (l .inv .1)))
 
 same-length : tie.Need-same-length Inv-loop μ-loop
 same-length c = c .before .loop .inv .1 .drawn .size ∙ sym (c .before .before .before .pre .0)
@@ -68,11 +68,11 @@ draw-spec =
     loop-holds
     mul-from
     add-to
-    mul-turn
-    sub-turn
-    part-turn-start
-    part-turn-end
-    turn-requires
+    mul-transpose
+    sub-transpose
+    part-transpose-start
+    part-transpose-end
+    transpose-requires
     add-w
     loop-less
     loop-again

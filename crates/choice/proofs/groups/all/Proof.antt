@@ -7,9 +7,9 @@ use native.Mathlib.Numerals.{add-one}
 use mathlib.Core.Path.{_≡_, refl, _∙_}
 use lib.ListN.{length, take, length-set}
 use lib.Seq.{take-suc-set}
-use Rattle.vectors.proofs.Choice.Groups.{numbers}
-use Rattle.vectors.proofs.Choice.Grouped.{numbers-more}
-use Rattle.choice.proofs.GroupsHeld.{all-none, all-one}
+use Rattle.choice.specs.Inner.Split.{numbers}
+use Rattle.choice.proofs.Choice.Grouped.{numbers-more}
+use Rattle.choice.proofs.Grouping.Held.{all-none, all-one}
 use Rattle.choice.proofs.groups.all.Statement.{statement}
 use Rattle.choice.proofs.groups.all.Tie as tie
 

@@ -3,7 +3,7 @@ use borrow.Author.Needs.{needs}
 use native.Mathlib.Omega.{arith}
 use mathlib.Core.Path.{sym}
 use lib.Seq.{length-take-le}
-use Rattle.choice.proofs.GroupsHeld.{refined-are}
+use Rattle.choice.proofs.Grouping.Held.{refined-are}
 use Rattle.choice.proofs.groups.refined.Statement.{statement}
 use Rattle.choice.proofs.groups.refined.Tie as tie
 

@@ -4,9 +4,9 @@ use Prim.Native.Nat.{_+_, _-_, _≤_}
 use native.Mathlib.Omega.{arith}
 use mathlib.Core.Path.{_≡_, refl, _∙_}
 use lib.ListN.{length, getD}
-use Rattle.choice.specs.Groups.{valueAt}
-use Rattle.choice.proofs.GroupsSplit.{Splitting, splitting-none, splitting-end, splitting-low, splitting-room, splitting-room-2, splitting-more}
-use Rattle.lists.proofs.Walk.{walk-fits}
+use Rattle.choice.specs.Inner.Groups.{valueAt}
+use Rattle.choice.proofs.Grouping.Split.{Splitting, splitting-none, splitting-end, splitting-low, splitting-room, splitting-room-2, splitting-more}
+use Rattle.lists.proofs.Entries.Walk.{walk-fits}
 use Rattle.choice.proofs.groups.split_all.Statement.{statement}
 use Rattle.choice.proofs.groups.split_all.Tie as tie
 

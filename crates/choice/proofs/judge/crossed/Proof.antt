@@ -1,6 +1,6 @@
 -- `choice::judge::crossed` meets its contract. Assumes nothing.
 use borrow.Author.Needs.{needs}
-use Rattle.choice.proofs.Judging.{crossed-one, crossed-two}
+use Rattle.choice.proofs.Counting.Judging.{crossed-one, crossed-two}
 use Rattle.choice.proofs.judge.crossed.Statement.{statement}
 use Rattle.choice.proofs.judge.crossed.Tie as tie
 

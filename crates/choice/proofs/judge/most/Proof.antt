@@ -4,8 +4,8 @@ use Prim.Native.Nat.{_+_, _-_, _*_, _≤_, _<_}
 use native.Mathlib.Omega.{arith}
 use mathlib.Core.Path.{_≡_}
 use lib.ListN.{length, getD, drop}
-use Rattle.choice.specs.Gain.{mostOf}
-use Rattle.choice.proofs.Judging.{most-more, most-all, square-low}
+use Rattle.choice.specs.Inner.Gain.{mostOf}
+use Rattle.choice.proofs.Counting.Judging.{most-more, most-all, square-low}
 use Rattle.choice.proofs.judge.most.Statement.{statement}
 use Rattle.choice.proofs.judge.most.Tie as tie
 

@@ -1,7 +1,7 @@
 -- `choice::judge::ones_of_three` meets its contract. Assumes nothing.
 use borrow.Author.Needs.{needs}
 use native.Mathlib.Omega.{arith}
-use Rattle.choice.proofs.Three.{three}
+use Rattle.choice.proofs.Counting.Three.{three}
 use Rattle.choice.proofs.judge.ones_of_three.Statement.{statement}
 use Rattle.choice.proofs.judge.ones_of_three.Tie as tie
 

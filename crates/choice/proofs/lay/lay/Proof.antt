@@ -6,12 +6,12 @@ use mathlib.Core.Path.{_≡_, sym, ap, _∙_}
 use mathlib.Core.List.{List}
 use lib.ListN.{length, take, length-take}
 use Rattle.lists.specs.Cut.{cut}
-use Rattle.choice.specs.Layout.{endsOf}
-use Rattle.choice.specs.Gain.{mostOf, smallMost}
-use Rattle.choice.specs.Judged.{maxGain}
-use Rattle.choice.proofs.Halves.{halves, halves-low}
-use Rattle.choice.proofs.Laid.{whole-length}
-use Rattle.choice.proofs.Laying.{laid-out}
+use Rattle.choice.specs.Inner.Layout.{endsOf}
+use Rattle.choice.specs.Inner.Gain.{mostOf, smallMost}
+use Rattle.choice.specs.Inner.Judged.{maxGain}
+use Rattle.choice.proofs.Counting.Halves.{halves, halves-low}
+use Rattle.choice.proofs.Laying.Laid.{whole-length}
+use Rattle.choice.proofs.Laying.Room.{laid-out}
 use Rattle.choice.proofs.lay.lay.Statement.{statement}
 use Rattle.choice.proofs.lay.lay.Tie as tie
 

@@ -6,11 +6,11 @@ use native.Mathlib.Omega.{arith}
 use mathlib.Core.Path.{sym, _∙_}
 use lib.ListN.{length, getD}
 use Rattle.lists.specs.Cut.{cut}
-use Rattle.lists.proofs.Over.{filling-length}
-use Rattle.lists.proofs.Walk.{walk-fits}
-use Rattle.choice.specs.Layout.{itemsOf, maxBlocks}
-use Rattle.choice.proofs.Laying.{items-room, whole-room}
-use Rattle.choice.proofs.LayingSmall.{Adding, adding-none, adding-end, adding-bounds, adding-part, adding-left, adding-within, adding-block, adding-next, adding-large}
+use Rattle.lists.proofs.Writing.Over.{filling-length}
+use Rattle.lists.proofs.Entries.Walk.{walk-fits}
+use Rattle.choice.specs.Inner.Layout.{itemsOf, maxBlocks}
+use Rattle.choice.proofs.Laying.Room.{items-room, whole-room}
+use Rattle.choice.proofs.Laying.Small.{Adding, adding-none, adding-end, adding-bounds, adding-part, adding-left, adding-within, adding-block, adding-next, adding-large}
 use Rattle.choice.proofs.lay.lay_pairs.Statement.{statement}
 use Rattle.choice.proofs.lay.lay_pairs.Tie as tie
 

@@ -5,11 +5,11 @@ use native.Mathlib.Omega.{arith}
 use mathlib.Core.Path.{_≡_, sym, ap, _∙_}
 use lib.ListN.{length, getD, length-replicate}
 use Rattle.lists.specs.Cut.{cut}
-use Rattle.lists.proofs.Over.{filling-length}
-use Rattle.lists.proofs.Walk.{lent, walk-fits}
-use Rattle.choice.specs.Layout.{wholeItems, maxBlocks}
-use Rattle.choice.proofs.Laying.{whole-room, ends-room}
-use Rattle.choice.proofs.LayingWhole.{Laying, laying-none, laying-end, laying-small, laying-part, laying-room, laying-zeros, laying-large}
+use Rattle.lists.proofs.Writing.Over.{filling-length}
+use Rattle.lists.proofs.Entries.Walk.{lent, walk-fits}
+use Rattle.choice.specs.Inner.Layout.{wholeItems, maxBlocks}
+use Rattle.choice.proofs.Laying.Room.{whole-room, ends-room}
+use Rattle.choice.proofs.Laying.Whole.{Laying, laying-none, laying-end, laying-small, laying-part, laying-room, laying-zeros, laying-large}
 use Rattle.choice.proofs.lay.lay_whole.Statement.{statement}
 use Rattle.choice.proofs.lay.lay_whole.Tie as tie
 
@@ -94,20 +94,20 @@ add-g c = search needs
 mul-at : tie.Need-mul-at Inv-loop μ-loop
 mul-at c = omega (arith, part c, items-long c)
 
-mul-copy : tie.Need-mul-copy Inv-loop μ-loop
-mul-copy c = search needs
+mul-xored : tie.Need-mul-xored Inv-loop μ-loop
+mul-xored c = search needs
 
-sub-copy : tie.Need-sub-copy Inv-loop μ-loop
-sub-copy c = search needs
+sub-xored : tie.Need-sub-xored Inv-loop μ-loop
+sub-xored c = search needs
 
-part-copy-start : tie.Need-part-copy-start Inv-loop μ-loop
-part-copy-start c = search needs
+part-xored-start : tie.Need-part-xored-start Inv-loop μ-loop
+part-xored-start c = search needs
 
-part-copy-end : tie.Need-part-copy-end Inv-loop μ-loop
-part-copy-end c = to (c .before .before)
+part-xored-end : tie.Need-part-xored-end Inv-loop μ-loop
+part-xored-end c = to (c .before .before)
 
-copy-requires : tie.Need-copy-requires Inv-loop μ-loop
-copy-requires c κs = part (c .before .before)
+xored-requires : tie.Need-xored-requires Inv-loop μ-loop
+xored-requires c κs = part (c .before .before)
 
 add-whole : tie.Need-add-whole Inv-loop μ-loop
 add-whole c = omega (arith, ends-fit (copied c))
@@ -124,7 +124,7 @@ mul-zero c = omega (arith, ends-fit (copied (c .before)))
 zero-requires : tie.Need-zero-requires Inv-loop μ-loop
 zero-requires c κs =
     let t = copied (c .before) in
-    (omega arith, omega (arith, zeros-fit t, c .before .before .before .copy .kept .1 .0))
+    (omega arith, omega (arith, zeros-fit t, c .before .before .before .xored .kept .1 .1 .0))
 
 sub-ends : tie.Need-sub-ends Inv-loop μ-loop
 sub-ends c = omega (arith, zeroed c .if1 .taken)
@@ -144,7 +144,7 @@ loop-again c =
     let l = t .before .before .before in
     let s = l .before .before .before .before .before in
     laying-large _ _ _ _ (l .loop .items) (l .loop .ends) (l .loop .whole) (l .loop .from) (l .loop .g) (l .loop .inv) 0 (t .before .before .loop-test .taken) (t .if1 .taken) (room s)
-    (ends-room (s .pre .0)) _ _ (c .before .before .before .before .before .before .copy .ensures) (c .before .before .zero .ensures)
+    (ends-room (s .pre .0)) _ _ (c .before .before .before .before .before .before .xored .ensures) (c .before .before .zero .ensures)
 
 loop-less-2 : tie.Need-loop-less-2 Inv-loop μ-loop
 loop-less-2 c = search needs
@@ -186,11 +186,11 @@ lay-whole-spec =
     add-from
     add-g
     mul-at
-    mul-copy
-    sub-copy
-    part-copy-start
-    part-copy-end
-    copy-requires
+    mul-xored
+    sub-xored
+    part-xored-start
+    part-xored-end
+    xored-requires
     add-whole
     add-whole-2
     add-zero

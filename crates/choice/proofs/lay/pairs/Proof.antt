@@ -3,7 +3,7 @@ use borrow.Author.Needs.{needs}
 use Prim.Native.Nat.{_-_}
 use native.Mathlib.Omega.{arith}
 use lib.ListN.{length}
-use Rattle.choice.proofs.LayingPairs.{Pairing, pairing-none, pairing-more, pairing-room, pairing-part, pairing-end}
+use Rattle.choice.proofs.Laying.Pairs.{Pairing, pairing-none, pairing-more, pairing-room, pairing-part, pairing-end}
 use Rattle.choice.proofs.lay.pairs.Statement.{statement}
 use Rattle.choice.proofs.lay.pairs.Tie as tie
 
@@ -25,20 +25,20 @@ shared-slice-read-x c = search needs
 add-i : tie.Need-add-i Inv-loop μ-loop
 add-i c = search needs
 
-mul-pairs-with : tie.Need-mul-pairs-with Inv-loop μ-loop
-mul-pairs-with c = search needs
+mul-xored : tie.Need-mul-xored Inv-loop μ-loop
+mul-xored c = search needs
 
-sub-pairs-with : tie.Need-sub-pairs-with Inv-loop μ-loop
-sub-pairs-with c = search needs
+sub-xored : tie.Need-sub-xored Inv-loop μ-loop
+sub-xored c = search needs
 
-part-pairs-with-start : tie.Need-part-pairs-with-start Inv-loop μ-loop
-part-pairs-with-start c = search needs
+part-xored-start : tie.Need-part-xored-start Inv-loop μ-loop
+part-xored-start c = search needs
 
-part-pairs-with-end : tie.Need-part-pairs-with-end Inv-loop μ-loop
-part-pairs-with-end c = search needs
+part-xored-end : tie.Need-part-xored-end Inv-loop μ-loop
+part-xored-end c = search needs
 
-pairs-with-requires : tie.Need-pairs-with-requires Inv-loop μ-loop
-pairs-with-requires c κs =
+xored-requires : tie.Need-xored-requires Inv-loop μ-loop
+xored-requires c κs =
     let l = c .before .before .before .before in
     pairing-part _ _ _ 0 (l .loop .out) (l .loop .w) (l .loop .i) (c .before .before .before .loop-test .taken) (l .loop .inv) (l .before .before .before .pre)
 
@@ -57,7 +57,7 @@ loop-less c = search needs
 loop-again : tie.Need-loop-again Inv-loop μ-loop
 loop-again c =
     let l = c .before .before .before .before .before .before .before in
-    pairing-more _ _ _ 0 (l .loop .out) (l .loop .w) (l .loop .i) (c .before .before .before .before .before .before .loop-test .taken) (l .loop .inv) _ (c .before .before .pairs-with .ensures)
+    pairing-more _ _ _ 0 (l .loop .out) (l .loop .w) (l .loop .i) (c .before .before .before .before .before .before .loop-test .taken) (l .loop .inv) _ (c .before .before .xored .ensures)
 
 same-length : tie.Need-same-length Inv-loop μ-loop
 same-length c = c .before .loop .inv .size
@@ -75,11 +75,11 @@ pairs-spec =
     mul-x
     shared-slice-read-x
     add-i
-    mul-pairs-with
-    sub-pairs-with
-    part-pairs-with-start
-    part-pairs-with-end
-    pairs-with-requires
+    mul-xored
+    sub-xored
+    part-xored-start
+    part-xored-end
+    xored-requires
     sub-w
     add-w
     loop-less

@@ -1,7 +1,7 @@
 -- `choice::lay::zero` meets its contract. Assumes nothing.
 use borrow.Author.Needs.{needs}
 use Prim.Native.Nat.{_-_}
-use Rattle.lists.proofs.Storing.{Spreading, spreading-none, spreading-more, spreading-end}
+use Rattle.lists.proofs.Writing.Storing.{Spreading, spreading-none, spreading-more, spreading-end}
 use Rattle.choice.proofs.lay.zero.Statement.{statement}
 use Rattle.choice.proofs.lay.zero.Tie as tie
 

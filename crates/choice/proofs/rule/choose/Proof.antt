@@ -6,14 +6,14 @@ use mathlib.Core.Path.{_≡_, refl, sym, _∙_}
 use mathlib.Core.List.{map}
 use lib.ListN.{length, getD, take}
 use lib.Seq.{length-take-le}
-use Rattle.vectors.specs.Choice.{candidates}
+use Rattle.choice.specs.Choice.{candidates}
 use Rattle.vectors.specs.Bounds.{maxInputs, maxVariables, maxVectors}
-use Rattle.choice.specs.Best.{Searched}
-use Rattle.choice.specs.Groups.{sizesOf, orderOf, groupsOf}
-use Rattle.choice.specs.Layout.{maxBlocks}
-use Rattle.choice.specs.Ties.{Ties}
-use Rattle.choice.proofs.ChoiceStage.{Stage, stage-none, stage-more, stage-ties, stage-stop, stage-end}
-use Rattle.choice.proofs.ChoiceTies.{best-sound, ties-none, ties-words}
+use Rattle.choice.specs.Inner.Best.{Searched}
+use Rattle.choice.specs.Inner.Groups.{sizesOf, orderOf, groupsOf}
+use Rattle.choice.specs.Inner.Layout.{maxBlocks}
+use Rattle.choice.specs.Inner.Ties.{Ties}
+use Rattle.choice.proofs.Choosing.Stage.{Stage, stage-none, stage-more, stage-ties, stage-stop, stage-end}
+use Rattle.choice.proofs.Choosing.Ties.{best-sound, ties-none, ties-words}
 use Rattle.choice.proofs.rule.choose.Statement.{statement}
 use Rattle.choice.proofs.rule.choose.Tie as tie
 

@@ -3,8 +3,8 @@ use borrow.Author.Needs.{needs}
 use Prim.Native.Nat.{_-_, _<_}
 use native.Mathlib.Omega.{arith}
 use lib.ListN.{length, getD}
-use Rattle.lists.proofs.Alls.{all-at}
-use Rattle.choice.proofs.ChoiceGather.{Gathered, gathered-none, gathered-more, gathered-end}
+use Rattle.lists.proofs.Entries.Alls.{all-at}
+use Rattle.choice.proofs.Choosing.Gather.{Gathered, gathered-none, gathered-more, gathered-end}
 use Rattle.choice.proofs.rule.gather.Statement.{statement}
 use Rattle.choice.proofs.rule.gather.Tie as tie
 

@@ -1,7 +1,7 @@
 -- `choice::rule::later` meets its contract. Assumes nothing.
 use borrow.Author.Needs.{needs}
 use mathlib.Core.Path.{sym, ap, _∙_}
-use Rattle.choice.specs.Ties.{laterOf}
+use Rattle.choice.specs.Inner.Ties.{laterOf}
 use Rattle.choice.proofs.rule.later.Statement.{statement}
 use Rattle.choice.proofs.rule.later.Tie as tie
 

@@ -1,80 +1,121 @@
 -- `choice::search::best_of` meets its contract. Assumes nothing.
 use borrow.Author.Needs.{needs}
-use Prim.Native.Nat.{ℕ, _-_, _<_}
+use Prim.Native.Nat.{ℕ, _-_, _≤_, _<_}
 use native.Mathlib.Omega.{arith}
 use mathlib.Core.Path.{_≡_, refl, ap, _∙_}
 use mathlib.Core.Bool.{false}
 use lib.ListN.{length}
 use Rattle.vectors.specs.declared.Kind.{Kind}
-use Rattle.vectors.specs.Choice.{candidates, bestOf}
-use Rattle.vectors.specs.Variable.{faulty}
+use Rattle.vectors.specs.Variable.{earlier, later, faulty}
+use Rattle.choice.specs.Choice.{candidates, bestOf}
 use Rattle.choice.specs.declared.search.Best.{Best}
-use Rattle.choice.specs.Judged.{maxGain, gainAt, leftBy}
-use Rattle.choice.specs.Layout.{first, second}
-use Rattle.choice.specs.Search.{bestRows, noneBest}
-use Rattle.choice.proofs.ChoiceTies.{best-sound}
-use Rattle.choice.proofs.Order.{inputs-in, kind-one, kind-two}
-use Rattle.choice.proofs.Rows.{rows-few, rows-best}
+use Rattle.choice.specs.Inner.Judged.{maxGain, gainAt, leftBy}
+use Rattle.choice.specs.Inner.Search.{bestRows, noneBest}
+use Rattle.choice.proofs.Choosing.Ties.{best-sound}
+use Rattle.choice.proofs.Searching.Best.{Going, going-start, going-more, going-end}
+use Rattle.choice.proofs.Searching.Order.{inputs-in, kind-one, kind-two}
+use Rattle.choice.proofs.Searching.Rows.{rows-few, rows-best}
 use Rattle.choice.proofs.search.best_of.Statement.{statement}
 use Rattle.choice.proofs.search.best_of.Tie as tie
 
-abbrev start : tie.After-best-rows → tie.Start
-start c = c .before .before .before .before .before
+abbrev Inv-loop : tie.InvT-loop
+Inv-loop columns ends rests most n tied degree inputs rows b₀ i₀ b i =
+    Going (gainAt columns ends (length rests)) n (bestRows (gainAt columns ends (length rests)) n noneBest 0 rows) b rows i
 
-abbrev gain : tie.Start → ℕ → ℕ → ℕ
+abbrev μ-loop : tie.MeasureT-loop
+μ-loop columns ends rests most n tied degree inputs rows b₀ i₀ b i = rows - i
+
+abbrev start : tie.At-loop Inv-loop μ-loop → tie.Start Inv-loop μ-loop
+start l = l .before .before .before .before .before
+
+abbrev gain : tie.Start Inv-loop μ-loop → ℕ → ℕ → ℕ
 gain s = gainAt (s .args .columns .now) (s .args .ends .now) (length (s .args .rests .now))
 
--- the best of the candidates
-abbrev goal : tie.Start → Kind
-goal s = bestOf (leftBy (s .args .columns .now) (s .args .ends .now) (length (s .args .rests .now))) (candidates (s .args .n) (s .args .degree))
+rows-of-requires : tie.Need-rows-of-requires Inv-loop μ-loop
+rows-of-requires c κs = tt
 
-sound : (s : tie.Start) → faulty (s .args .n) (goal s) ≡ false
-sound s = best-sound _ (s .args .n) (s .args .degree) (goal s) (s .pre .0 .0) refl
+loop-holds : tie.Need-loop-holds Inv-loop μ-loop
+loop-holds c = let s = c .before .before .before .before in going-start (gain s) (s .args .n) (c .rows-of .result)
 
--- what the rows give
-known : (c : tie.After-best-rows)
-    → let s = start c in
-    (c .best-rows .result .i ≡ first (goal s)) × (c .best-rows .result .j ≡ second (goal s))
-known c =
-    let s = start c in
-    let e = c .best-rows .ensures ∙ ap (bestRows (gain s) (s .args .n) noneBest 0) (c .before .rows-of .ensures)
-    ∙ rows-best (gain s) maxGain (s .args .n) (λ i j h l. s .pre .0 .2 i j h l .low) (s .args .n - 1) (omega (arith, s .pre .0 .0)) (s .args .degree) in
-    (ap (λ (b : Best). b .i) e, ap (λ (b : Best). b .j) e)
+-- there are no more rows than inputs
+rows-in : (l : tie.At-loop Inv-loop μ-loop) → l .before .rows-of .result ≤ start l .args .n
+rows-in l = omega (arith, l .before .rows-of .ensures, rows-few (start l .args .n) (start l .args .degree) (start l .pre .0 .0))
 
-low : (c : tie.After-best-rows) → (c .best-rows .result .i < 256) × (c .best-rows .result .j < 256)
-low c =
-    let s = start c in
-    let l = inputs-in (s .args .n) (goal s) (sound s) in
-    (omega (arith, known c, l, s .pre .0 .1), omega (arith, known c, l, s .pre .0 .1))
+best-row-requires : tie.Need-best-row-requires Inv-loop μ-loop
+best-row-requires c κs =
+    let s = start (c .before) in
+    ((s .pre .0 .1, omega (arith, rows-in (c .before), c .loop-test .taken), s .pre .0 .2), (s .pre .1, c .before .loop .inv .high))
 
-rows-of-requires : tie.Need-rows-of-requires
-rows-of-requires c κs = search needs
+add-i : tie.Need-add-i Inv-loop μ-loop
+add-i c = search needs
 
-best-rows-requires : tie.Need-best-rows-requires
-best-rows-requires c κs =
-    let s = c .before .before .before .before in
-    ((s .pre .0 .1, rw (c .rows-of .ensures) (rows-few _ (s .args .degree) (s .pre .0 .0)), s .pre .0 .2), s .pre .1)
+loop-less : tie.Need-loop-less Inv-loop μ-loop
+loop-less c = search needs
 
-cast-t13 : tie.Need-cast-t13
-cast-t13 c = omega (arith, low (c .before .before .before) .1)
+loop-again : tie.Need-loop-again Inv-loop μ-loop
+loop-again c =
+    let l = c .before .before in
+    let s = start l in
+    going-more (gain s) (s .args .n) (s .pre .0 .1) _ (l .loop .b) _ _ (l .loop .i) (c .before .loop-test .taken) (c .best-row .ensures) (l .loop .inv)
 
-cast-t14 : tie.Need-cast-t14
-cast-t14 c = omega (arith, low (c .before .before .before) .0)
+-- ---- after all rows
 
-cast-t15 : tie.Need-cast-t15
-cast-t15 c = omega (arith, low (c .before .before .before .before) .1)
+module _ (c : tie.After-loop Inv-loop μ-loop) where
+  abbrev s : tie.Start Inv-loop μ-loop
+  s = start (c .before)
 
-returns : tie.Need-returns
+  -- the best of the candidates
+  abbrev goal : Kind
+  goal = bestOf (leftBy (s .args .columns .now) (s .args .ends .now) (length (s .args .rests .now))) (candidates (s .args .n) (s .args .degree))
+
+  sound : faulty (s .args .n) goal ≡ false
+  sound = best-sound _ (s .args .n) (s .args .degree) goal (s .pre .0 .0) refl
+
+  known : (c .before .loop .b .i ≡ earlier goal) × (c .before .loop .b .j ≡ later goal)
+  known =
+      let e = going-end (gain s) (s .args .n) _ (c .before .loop .b) _ (c .before .loop .i) (c .loop-test .left) (c .before .loop .inv)
+      ∙ ap (bestRows (gain s) (s .args .n) noneBest 0) (c .before .before .rows-of .ensures)
+      ∙ rows-best (gain s) maxGain (s .args .n) (λ i j h l. s .pre .0 .2 i j h l .low) (s .args .n - 1) (omega (arith, s .pre .0 .0)) (s .args .degree) in
+      (ap (λ (b : Best). b .i) e, ap (λ (b : Best). b .j) e)
+
+  low : (c .before .loop .b .i < 256) × (c .before .loop .b .j < 256)
+  low =
+      let l = inputs-in (s .args .n) goal sound in
+      (omega (arith, known, l, s .pre .0 .1), omega (arith, known, l, s .pre .0 .1))
+
+cast-t15 : tie.Need-cast-t15 Inv-loop μ-loop
+cast-t15 c = omega (arith, low (c .before .before .before) .1)
+
+cast-t16 : tie.Need-cast-t16 Inv-loop μ-loop
+cast-t16 c = omega (arith, low (c .before .before .before) .0)
+
+cast-t17 : tie.Need-cast-t17 Inv-loop μ-loop
+cast-t17 c = omega (arith, low (c .before .before .before .before) .1)
+
+returns : tie.Need-returns Inv-loop μ-loop
 returns c =
-    let b = c .before .before .before in
-    kind-one (start b .args .n) (goal (start b)) _ _ (sound (start b)) (known b .0) (known b .1) (c .before .if1 .taken)
+    let a = c .before .before .before in
+    kind-one (s a .args .n) (goal a) _ _ (sound a) (known a .0) (known a .1) (c .before .if1 .taken)
 
-returns-2 : tie.Need-returns-2
+returns-2 : tie.Need-returns-2 Inv-loop μ-loop
 returns-2 c =
-    let b = c .before .before .before .before in
-    kind-two (start b .args .n) (goal (start b)) _ _ (known b .0) (known b .1) (c .before .before .if1 .left)
+    let a = c .before .before .before .before in
+    kind-two (s a .args .n) (goal a) _ _ (known a .0) (known a .1) (c .before .before .if1 .left)
 
 pub best-of-spec : {M : Type 1} → statement M
 best-of-spec =
     tie.close
-    (tie.spec rows-of-requires best-rows-requires cast-t13 cast-t14 cast-t15 returns returns-2)
+    (tie.spec
+    Inv-loop
+    μ-loop
+    rows-of-requires
+    loop-holds
+    best-row-requires
+    add-i
+    loop-less
+    loop-again
+    cast-t15
+    cast-t16
+    cast-t17
+    returns
+    returns-2)

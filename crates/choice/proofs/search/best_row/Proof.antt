@@ -1,12 +1,14 @@
 -- `choice::search::best_row` meets its contract. Assumes nothing.
 use borrow.Author.Needs.{needs}
 use Prim.Native.Nat.{ℕ, _+_, _-_}
+use native.Mathlib.Omega.{arith}
 use mathlib.Core.Path.{sym, _∙_}
 use mathlib.Core.Logic.{inr}
 use borrow.Author.Tests.{eqb-true}
 use lib.ListN.{length}
-use Rattle.choice.specs.Judged.{gainAt}
-use Rattle.choice.proofs.Searching.{Rowing, rowing-start, rowing-more, rowing-end, tied-row, above-tied}
+use Rattle.choice.specs.Inner.Judged.{gainAt}
+use Rattle.choice.proofs.Counting.Judging.{gain-most}
+use Rattle.choice.proofs.Searching.Best.{Rowing, rowing-start, rowing-more, rowing-end, tied-row, top-row, above-tied}
 use Rattle.choice.proofs.search.best_row.Statement.{statement}
 use Rattle.choice.proofs.search.best_row.Tie as tie
 
@@ -17,25 +19,30 @@ abbrev μ-loop : tie.MeasureT-loop
 μ-loop columns ends rests most n tied i b₀ j₀ b j = n + 1 - j
 
 abbrev start : tie.At-loop Inv-loop μ-loop → tie.Start Inv-loop μ-loop
-start l = l .before .before .before .before .before .before
+start l = l .before .before .before .before .before .before .before .before
 
 abbrev gain : tie.Start Inv-loop μ-loop → ℕ → ℕ → ℕ
 gain s = gainAt (s .args .columns .now) (s .args .ends .now) (length (s .args .rests .now))
 
-is-tied-requires : tie.Need-is-tied-requires Inv-loop μ-loop
-is-tied-requires c κs = search needs
-
 returns : tie.Need-returns Inv-loop μ-loop
 returns c =
     let s = c .before .before .before .before .before in
-    tied-row (gain s) (s .args .n) (s .pre .0 .0) _ (s .pre .1 .0) _ (eqb-true _ 1 (sym (c .before .«is-tied» .ensures) ∙ c .if1 .taken)) (s .args .best) (s .pre .0 .1) (s .pre .1 .1)
+    top-row (gain s) (s .args .n) (s .args .best) (λ i j h m. omega (arith, gain-most _ _ _ _ i j (s .pre .0 .2 i j h m), c .if1 .taken)) (s .args .i) (s .pre .0 .1)
+
+is-tied-requires : tie.Need-is-tied-requires Inv-loop μ-loop
+is-tied-requires c κs = search needs
+
+returns-2 : tie.Need-returns-2 Inv-loop μ-loop
+returns-2 c =
+    let s = c .before .before .before .before .before .before .before in
+    tied-row (gain s) (s .args .n) (s .pre .0 .0) _ (s .pre .1 .0) _ (eqb-true _ 1 (sym (c .before .«is-tied» .ensures) ∙ c .if2 .taken)) (s .args .best) (s .pre .0 .1) (s .pre .1 .1)
 
 add-j : tie.Need-add-j Inv-loop μ-loop
 add-j c = search needs
 
 loop-holds : tie.Need-loop-holds Inv-loop μ-loop
 loop-holds c =
-    let s = c .before .before .before .before .before in
+    let s = c .before .before .before .before .before .before .before in
     rowing-start (gain s) (s .args .n) (s .args .i) (s .args .best) (s .pre .0 .1) (s .pre .1 .1)
 
 better-requires : tie.Need-better-requires Inv-loop μ-loop
@@ -57,8 +64,8 @@ loop-again c =
     let l = c .before .before in
     rowing-more (gain (start l)) (start l .args .n) (start l .pre .0 .0) _ _ _ (l .loop .j) _ (c .before .loop-test .taken) (c .better .ensures) (l .loop .inv)
 
-returns-2 : tie.Need-returns-2 Inv-loop μ-loop
-returns-2 c = rowing-end (gain (start (c .before))) (start (c .before) .args .n) _ _ _ (c .before .loop .j) (c .loop-test .left) (c .before .loop .inv)
+returns-3 : tie.Need-returns-3 Inv-loop μ-loop
+returns-3 c = rowing-end (gain (start (c .before))) (start (c .before) .args .n) _ _ _ (c .before .loop .j) (c .loop-test .left) (c .before .loop .inv)
 
 pub best-row-spec : {M : Type 1} → statement M
 best-row-spec =
@@ -66,12 +73,13 @@ best-row-spec =
     (tie.spec
     Inv-loop
     μ-loop
-    is-tied-requires
     returns
+    is-tied-requires
+    returns-2
     add-j
     loop-holds
     better-requires
     add-j-2
     loop-less
     loop-again
-    returns-2)
+    returns-3)

@@ -4,8 +4,8 @@ use Prim.Native.Nat.{ℕ}
 use mathlib.Core.Path.{sym, _∙_}
 use borrow.Author.Tests.{eqb-true}
 use lib.ListN.{length}
-use Rattle.choice.specs.Judged.{gainAt}
-use Rattle.choice.proofs.Searching.{better-new, better-old}
+use Rattle.choice.specs.Inner.Judged.{gainAt}
+use Rattle.choice.proofs.Searching.Best.{better-new, better-old}
 use Rattle.choice.proofs.search.better.Statement.{statement}
 use Rattle.choice.proofs.search.better.Tie as tie
 

@@ -4,7 +4,7 @@ use Prim.Native.Nat.{ℕ}
 use native.Mathlib.Omega.{arith}
 use mathlib.Core.Path.{ap}
 use lib.Dec.{eqb}
-use Rattle.vectors.proofs.BitsLaws.{input-bit}
+use Rattle.vectors.proofs.Bits.Laws.{input-bit}
 use Rattle.choice.proofs.search.is_tied.Statement.{statement}
 use Rattle.choice.proofs.search.is_tied.Tie as tie
 

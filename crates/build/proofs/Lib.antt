@@ -1,0 +1,4 @@
+pub mod Refusing
+pub mod Writing
+pub mod Holding
+pub mod Places

@@ -1,0 +1,3 @@
+pub mod Filling
+pub mod Written
+pub mod Parts

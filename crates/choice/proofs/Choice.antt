@@ -1,0 +1,11 @@
+pub mod Numbers
+pub mod Pairs
+pub mod Least
+pub mod Candidates
+pub mod Loops
+pub mod Fewer
+pub mod Steps
+pub mod Groups
+pub mod Grouped
+pub mod Squares
+pub mod Independent

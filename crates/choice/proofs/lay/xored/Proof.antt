@@ -1,0 +1,73 @@
+-- `choice::lay::xored` meets its contract. Assumes nothing.
+use borrow.Author.Needs.{needs}
+use Prim.Native.Nat.{_-_}
+use native.Mathlib.Omega.{arith}
+use mathlib.Core.Path.{sym}
+use mathlib.Core.List.{map}
+use lib.Bits.{bitXor}
+use lib.ListN.{length, length-map}
+use Rattle.lists.proofs.Entries.Members.{getD-map}
+use Rattle.lists.proofs.Writing.Storing.{Storing, storing-none, storing-more, storing-end}
+use Rattle.choice.proofs.lay.xored.Statement.{statement}
+use Rattle.choice.proofs.lay.xored.Tie as tie
+
+abbrev Inv-loop : tie.InvT-loop
+Inv-loop x words out₀ at i₀ out i = Storing (map (bitXor x) words) out₀ at out i
+
+abbrev μ-loop : tie.MeasureT-loop
+μ-loop x words out₀ at i₀ out i = length words - i
+
+loop-holds : tie.Need-loop-holds Inv-loop μ-loop
+loop-holds c = storing-none _ _ _
+
+mul-out : tie.Need-mul-out Inv-loop μ-loop
+mul-out c = search needs
+
+shared-slice-read-out : tie.Need-shared-slice-read-out Inv-loop μ-loop
+shared-slice-read-out c = search needs
+
+add-out : tie.Need-add-out Inv-loop μ-loop
+add-out c = search needs
+
+mul-out-2 : tie.Need-mul-out-2 Inv-loop μ-loop
+mul-out-2 c = search needs
+
+slice-write-out : tie.Need-slice-write-out Inv-loop μ-loop
+slice-write-out c = search needs
+
+add-i : tie.Need-add-i Inv-loop μ-loop
+add-i c = search needs
+
+loop-less : tie.Need-loop-less Inv-loop μ-loop
+loop-less c = search needs
+
+loop-again : tie.Need-loop-again Inv-loop μ-loop
+loop-again c =
+    let a = c .before .before .before .args in
+    let h = c .before .loop-test .taken in
+    storing-more _ _ _ 0 _ _ _ (omega (arith, length-map (a .words .now) (bitXor (a .x)))) (sym (getD-map (bitXor (a .x)) (a .words .now) (c .before .before .loop .i) 0 0 h))
+    (c .before .before .loop .inv)
+
+same-length : tie.Need-same-length Inv-loop μ-loop
+same-length c = c .before .loop .inv .size
+
+returns : tie.Need-returns Inv-loop μ-loop
+returns c = storing-end _ _ _ _ _ (omega (arith, length-map (c .before .before .args .words .now) (bitXor (c .before .before .args .x)))) (c .before .loop .inv)
+
+pub xored-spec : {M : Type 1} → statement M
+xored-spec =
+    tie.close
+    (tie.spec
+    Inv-loop
+    μ-loop
+    loop-holds
+    mul-out
+    shared-slice-read-out
+    add-out
+    mul-out-2
+    slice-write-out
+    add-i
+    loop-less
+    loop-again
+    same-length
+    returns)

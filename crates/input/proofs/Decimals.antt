@@ -1,0 +1,3 @@
+-- How one number is read: its field, and the digits of that. Assumes nothing.
+pub mod Field
+pub mod Digits

@@ -1,0 +1,5 @@
+pub mod Fields
+pub mod Decimal
+pub mod Input
+pub mod InputSamples
+pub mod Inner

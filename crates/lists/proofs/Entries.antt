@@ -1,0 +1,5 @@
+pub mod Members
+pub mod Joined
+pub mod Alls
+pub mod Parts
+pub mod Walk

@@ -1,0 +1,5 @@
+pub mod InPlace
+pub mod Zeros
+pub mod Mapped
+pub mod Storing
+pub mod Over

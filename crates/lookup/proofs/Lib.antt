@@ -1,0 +1,4 @@
+pub mod Pass
+pub mod Lookups
+pub mod Exact
+pub mod Indices

@@ -1,0 +1,6 @@
+pub mod Stored
+pub mod Linear
+pub mod Masking
+pub mod Singles
+pub mod Answers
+pub mod Keys

@@ -1,0 +1,61 @@
+// Many keys looked up in one call.
+ghost use mathlib.Core.Path.{_≡_};
+ghost use Rattle.record.specs.Tables.{lent};
+ghost use Rattle.lookup.specs.Lookup.{lookupOf, notFound};
+ghost use Rattle.many.specs.Lookups.{refusedAt, left, lookupMany};
+use record::Record;
+
+mod find;
+mod images;
+mod tables;
+
+// The refusal of the first key that is refused, and the key's number from 1; 0 and 0 where none is.
+pub struct Many {
+    pub refusal: u8,
+    pub place: usize,
+}
+
+fn too_short() -> Many
+    ensures { λ r. ⌜ r ≡ refusedAt 20 0 ⌝ }
+{
+    Many {
+        refusal: 20,
+        place: 0,
+    }
+}
+
+// The answer where every key is refused as 14.
+pub fn refuse_many(keys: &[u64], indices: &mut [u16]) -> Many
+    ensures { λ r. ⌜ left r (now (indices .exit)) ≡ lookupMany (λ x. notFound 14) (now (keys .entry)) (now (indices .entry)) ⌝ }
+{
+    if indices.len() < keys.len() {
+        return too_short();
+    }
+    find::none(keys, indices)
+}
+
+// The index of each key, 0 beside a refusal. The image of a key, its column with its word above it, is the XOR of the images
+// of its bytes, which are in tables that are made once.
+pub fn lookup_many(
+    unit: Record,
+    h: &[u16],
+    g: &[u16],
+    aux: &[u64],
+    keys: &[u64],
+    indices: &mut [u16],
+) -> Many
+    ensures { λ r. ⌜ left r (now (indices .exit))
+        ≡ lookupMany (lookupOf unit (lent (now (h .entry)) (now (g .entry)) (now (aux .entry)))) (now (keys .entry)) (now (indices .entry)) ⌝ }
+{
+    if !record::well_formed(unit, h, g, aux) {
+        return refuse_many(keys, indices);
+    }
+    if indices.len() < keys.len() {
+        return too_short();
+    }
+    let frame = find::framed(unit);
+    let images = images::images(unit);
+    let mut tables = [0u64; 2048];
+    tables::fill(&images, &mut tables);
+    find::all(frame, &tables, h, g, aux, keys, indices)
+}

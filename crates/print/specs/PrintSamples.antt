@@ -1,0 +1,25 @@
+-- The printed page of SCOPE 14.9; a unit with no variables and a negative excess; a refusal: all computed.
+use Prim.Native.Nat.{ℕ}
+use mathlib.Core.Path.{_≡_, refl}
+use mathlib.Core.List.{List, [], _∷_}
+use Rattle.build.specs.Build.{Outcome, buildChosen}
+use Rattle.unit.specs.Samples.{S, nines}
+use Rattle.print.specs.Ascii.{ascii}
+use Rattle.print.specs.Print.{textOf, refusedText}
+
+-- the text of what a build leaves
+abbrev textAfter : Outcome → List ℕ
+textAfter o = textOf (o .built .unit) (o .tables)
+
+pub record Table : Type 0 where
+  -- the list S
+  pub whole : textAfter (buildChosen 6 2 7 S (nines 5 8 9))
+      ≡ ascii "unit 6 3 2 1 7 7 15 0\nvars 2 4 24\nrest 41\nh 0 2 4 5\ng 5 1 7 2 4 3 6\naux 0 0 1 2 10 16 23 25\n"
+  -- one vector: no variables
+  pub alone : textAfter (buildChosen 6 1 1 (16 ∷ []) (nines 1 1 2)) ≡ ascii "unit 6 0 0 0 1 1 1 -1\nvars\nrest 63\nh 0\ng 1\naux 0 16\n"
+  -- refusal 13, place 3
+  pub refusal : refusedText 13 3 ≡ ascii "refused 13 3\n"
+
+pub samples : Table
+unfolding buildChosen textOf
+samples = record { whole = refl; alone = refl; refusal = refl }

@@ -1,0 +1,85 @@
+// The pieces of a line. Each is written at a place of the target, if it ends within the target, and the place past it is answered in any case:
+// so that a text is measured by writing it to an empty target.
+ghost use mathlib.Core.List.{[], _∷_, _++_};
+ghost use Prim.Native.Nat.{_+_, _*_, _≤_, _<_};
+ghost use lib.ListN.{length};
+ghost use Rattle.print.specs.Decimal.{decimal as Decimal·decimal, signed};
+ghost use Rattle.print.specs.Line.{space, fields};
+ghost use Rattle.print.specs.Inner.Written.{Written, maxPlace};
+use crate::decimal;
+
+pub(crate) fn byte(b: u8, out: &mut [u8], at: usize) -> usize
+    requires { ⌜ at < maxPlace ⌝ }
+    ensures { λ r. ⌜ Written (now (out .entry)) at (b ∷ []) (now (out .exit)) r ⌝ }
+{
+    if out.len() <= at {
+        return at + 1;
+    }
+    out[at] = b;
+    at + 1
+}
+
+pub(crate) fn bytes(name: &[u8], out: &mut [u8], at: usize) -> usize
+    requires { ⌜ at + length (now name) ≤ maxPlace ⌝ }
+    ensures { λ r. ⌜ Written (now (out .entry)) at (now (name .entry)) (now (out .exit)) r ⌝ }
+{
+    let mut end = at;
+    let mut i = 0;
+    while i < name.len() {
+        end = byte(name[i], out, end);
+        i += 1;
+    }
+    end
+}
+
+// A space and a number.
+fn field(n: u64, out: &mut [u8], at: usize) -> usize
+    requires { ⌜ at + 21 ≤ maxPlace ⌝ }
+    ensures { λ r. ⌜ Written (now (out .entry)) at (space ∷ Decimal·decimal n) (now (out .exit)) r ⌝ }
+{
+    let after = byte(32, out, at);
+    decimal::put(n, out, after)
+}
+
+// A space and a signed number.
+pub(crate) fn signed_field(n: i64, out: &mut [u8], at: usize) -> usize
+    requires { ⌜ at + 22 ≤ maxPlace ⌝ }
+    ensures { λ r. ⌜ Written (now (out .entry)) at (space ∷ signed n) (now (out .exit)) r ⌝ }
+    ensures { λ r. ⌜ r ≤ at + 22 ⌝ }
+{
+    let size = decimal::magnitude(n);
+    if n < 0 {
+        let after = bytes(b" -", out, at);
+        return decimal::put(size, out, after);
+    }
+    field(size, out, at)
+}
+
+// A name, and numbers with a space before each.
+pub(crate) fn words16(name: &[u8], words: &[u16], out: &mut [u8], at: usize) -> usize
+    requires { ⌜ at + length (now name) + 21 * length (now words) ≤ maxPlace ⌝ }
+    ensures { λ r. ⌜ Written (now (out .entry)) at (now (name .entry) ++ fields (now (words .entry))) (now (out .exit)) r ⌝ }
+    ensures { λ r. ⌜ r ≤ at + length (now (name .entry)) + 21 * length (now (words .entry)) ⌝ }
+{
+    let mut end = bytes(name, out, at);
+    let mut i = 0;
+    while i < words.len() {
+        end = field(words[i] as u64, out, end);
+        i += 1;
+    }
+    end
+}
+
+pub(crate) fn words64(name: &[u8], words: &[u64], out: &mut [u8], at: usize) -> usize
+    requires { ⌜ at + length (now name) + 21 * length (now words) ≤ maxPlace ⌝ }
+    ensures { λ r. ⌜ Written (now (out .entry)) at (now (name .entry) ++ fields (now (words .entry))) (now (out .exit)) r ⌝ }
+    ensures { λ r. ⌜ r ≤ at + length (now (name .entry)) + 21 * length (now (words .entry)) ⌝ }
+{
+    let mut end = bytes(name, out, at);
+    let mut i = 0;
+    while i < words.len() {
+        end = field(words[i], out, end);
+        i += 1;
+    }
+    end
+}

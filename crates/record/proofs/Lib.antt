@@ -1,0 +1,4 @@
+pub mod Formed
+pub mod Sound
+pub mod Marks
+pub mod Excesses

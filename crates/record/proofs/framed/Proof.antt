@@ -1,0 +1,46 @@
+-- `record::framed` meets its contract. Assumes nothing.
+use borrow.Author.Tests.{not-true, not-false}
+use mathlib.Core.Path.{_≡_, sym, _∙_}
+use mathlib.Core.Bool.{true}
+use Rattle.record.specs.Formed.{inBounds, framedBy}
+use Rattle.record.proofs.Formed.{in-bounds}
+use borrow.Author.Needs.{needs}
+use Rattle.record.proofs.framed.Statement.{statement}
+use Rattle.record.proofs.framed.Tie as tie
+
+bounds : (c : tie.Else1) → inBounds (c .before .before .before .before .before .args .unit) ≡ true
+bounds c = sym (c .before .in-bounds .ensures) ∙ not-false _ (c .if1 .left)
+
+in-bounds-requires : tie.Need-in-bounds-requires
+in-bounds-requires c κs = search needs
+
+returns : tie.Need-returns
+unfolding framedBy
+returns c = rw (sym (c .before .in-bounds .ensures) ∙ not-true _ (c .if1 .taken))
+
+right-kept-requires : tie.Need-right-kept-requires
+right-kept-requires c κs = in-bounds (c .before .before .before .before .before .args .unit) (bounds c)
+
+returns-2 : tie.Need-returns-2
+unfolding framedBy
+returns-2 c = rw (bounds (c .before .before), sym (c .before .right-kept .ensures) ∙ not-true _ (c .if2 .taken))
+
+long-enough-requires : tie.Need-long-enough-requires
+long-enough-requires c κs = let e = c .before .before in in-bounds (e .before .before .before .before .before .args .unit) (bounds e)
+
+returns-3 : tie.Need-returns-3
+unfolding framedBy
+returns-3 c =
+    let e = c .before in
+    rw (bounds (e .before .before), sym (e .before .right-kept .ensures) ∙ not-false _ (e .if2 .left)) (c .long-enough .ensures)
+
+pub framed-spec : {M : Type 1} → statement M
+framed-spec =
+    tie.close
+    (tie.spec
+    in-bounds-requires
+    returns
+    right-kept-requires
+    returns-2
+    long-enough-requires
+    returns-3)

@@ -1,0 +1,55 @@
+-- The record of a unit, and what is worked out for it.
+use Prim.Native.Nat.{ℕ, suc, _-_, _^_}
+use mathlib.Core.List.{List, _++_, map}
+use lib.Dec.{leb}
+use lib.IntN.{ℤ, pos, subℕ}
+use lib.ListN.{length, take, drop, replicate}
+use Rattle.lists.specs.First.{firstFrom}
+use Rattle.vectors.specs.declared.Kind.{Kind}
+use Rattle.vectors.specs.declared.Part.the-variants.{Row, Column}
+use Rattle.vectors.specs.declared.Variable.{Variable}
+use Rattle.vectors.specs.Bounds.{maxVariables}
+use Rattle.vectors.specs.Variable.{kindsOf, blankVariable}
+use Rattle.span.specs.Span.{kept}
+use Rattle.record.specs.declared.Record.{Record}
+
+-- SCOPE 12.2: every number 0, no kept input, a blank variable in every slot
+abbrev pub blankRecord : Record
+blankRecord = record { n = 0; p = 0; n1 = 0; k = 0; cells = 0; kept = 0; tries = 0; excess = pos 0; variables = replicate maxVariables blankVariable }
+
+-- SCOPE 5.6, 12.3: the first n1 variables marked row, the others column, and blank ones in the slots after them
+abbrev pub variablesOf : ℕ → List Kind → List Variable
+variablesOf n1 ks =
+    map (λ k. record { kind = k; part = Row }) (take n1 ks)
+    ++ map (λ k. record { kind = k; part = Column }) (drop n1 ks)
+    ++ replicate (maxVariables - length ks) blankVariable
+
+-- the smallest q with 2^q at least m
+unfoldable pub log2Up : ℕ → ℕ
+unfolding firstFrom
+log2Up m = firstFrom m (λ q. leb m (2 ^ q)) 0
+
+-- SCOPE 8.6: p less the floor for k vectors, with its sign
+unfoldable pub excessOf : ℕ → ℕ → ℤ
+unfolding log2Up
+excessOf p k = subℕ p (log2Up (suc k))
+
+-- SCOPE 8.5: the record of an accepted list of k vectors of n bits, by the variables, n1, L and the tries
+unfoldable pub recordOf : ℕ → ℕ → ℕ → List Kind → ℕ → ℕ → Record
+unfolding kept excessOf
+recordOf n n1 k ks cells tries =
+    record {
+      n = n;
+      p = length ks;
+      n1 = n1;
+      k = k;
+      cells = cells;
+      kept = kept n ks;
+      tries = tries;
+      excess = excessOf (length ks) k;
+      variables = variablesOf n1 ks;
+    }
+
+-- the variables of a record, p of them
+abbrev pub kindsIn : Record → List Kind
+kindsIn u = kindsOf (take (u .p) (u .variables))

@@ -1,0 +1,4 @@
+-- What the entry answers.
+pub mod Owned
+pub mod Unfit
+pub mod Settled

@@ -1,0 +1,220 @@
+-- The rows placed by their marks: the code's words beside the state of the placing. Assumes nothing.
+use Prim.Native.Nat.{ℕ, suc, _+_, _-_, _*_, _≤_, _<_}
+use native.Mathlib.Nat.{eq-or-lt-of-le}
+use native.Mathlib.Numerals.{add-one}
+use native.Mathlib.Omega.{arith}
+use mathlib.Core.Path.{_≡_, refl, sym, ap, _∙_}
+use mathlib.Core.List.{List, [], _∷_}
+use mathlib.Core.Logic.{⊎-elim}
+use lib.ListN.{length, getD, set, drop, replicate, length-set, length-map, length-drop, length-replicate, getD-replicate}
+use lib.Seq.{ext-getD}
+use Rattle.lists.specs.Members as Members
+use Rattle.vectors.specs.Bounds.{maxCells}
+use Rattle.rows.specs.Care.{Care, caresBy, inRow, openWeight}
+use Rattle.rows.specs.Fit.{firstFit, put}
+use Rattle.rows.specs.Place.{State, Placing, place, placeRow}
+use Rattle.rows.specs.Answer.{caresFrom, caresIn, caresOf, owned, left, settle, settled}
+use Rattle.rows.specs.Inner.Chains.{chain, chainOf, Rises, Weighs, weightFrom, headOf, Marked, RowPlaced, undone, Within}
+use Rattle.rows.specs.declared.End.the-variants.{All, NoFit}
+use Rattle.rows.specs.declared.room.Fit.{Fit}
+use Rattle.rows.specs.declared.room.Fit.the-variants.{At, None}
+use Rattle.rows.proofs.Fits.First.{fit-low}
+use Rattle.rows.proofs.Placing.Open.{countOf, count-all, open-less}
+use Rattle.rows.proofs.Chains.Walks.{chain-pos}
+use Rattle.rows.proofs.Sweeps.Levels.{Sweep, sweep-start, sweep-next, sweep-end, sweep-pass, sweep-stuck, sweep-more}
+use Rattle.rows.proofs.Sweeps.Marks.{RowState, MarkedAt, row-weight, row-none, row-open, row-set, row-start}
+use Rattle.rows.proofs.Sweeps.Back.{way-back}
+
+-- ---- the placing of one row
+
+pub placed-at : (m : List Care) (row : ℕ) (h g : List ℕ) (d : ℕ) {g' : List ℕ} → firstFit g m ≡ At d → g' ≡ put g d m → RowPlaced m row h g (At d) (set h row d) g'
+placed-at m row h g d e q =
+    record { is = sym e; rows-are = λ u k. let a : d ≡ u = cc in rw a; cells-are = λ u k. let a : d ≡ u = cc in q ∙ rw a; kept = λ t k. absurd (at-none k) }
+  where
+    at-none : {t : ℕ} → _≡_ {A = Fit} (At d) (None t) → ⊥
+    at-none {t} k = let z : _≡_ {A = ℕ} 0 1 = cc in omega arith
+
+pub placed-none : (m : List Care) (row : ℕ) (h g : List ℕ) (t : ℕ) → firstFit g m ≡ None t → RowPlaced m row h g (None t) h g
+placed-none m row h g t e = record { is = sym e; rows-are = λ u k. absurd (none-at k); cells-are = λ u k. absurd (none-at k); kept = λ u k. (refl, refl) }
+  where
+    none-at : {u : ℕ} → _≡_ {A = Fit} (None t) (At u) → ⊥
+    none-at {u} k = let z : _≡_ {A = ℕ} 0 1 = cc in omega arith
+
+-- ---- the loop's state: a sweep for the level, at the row i
+
+-- the placing of the words' vectors, as the owner writes them, into n rows over the cells g₀
+abbrev pub plan : ℕ → List ℕ → ℕ → List ℕ → Placing
+plan owner ws n g₀ = place (caresOf owner ws) (replicate n 0) g₀
+
+pub record Going (owner : ℕ) (ws : List ℕ) (n : ℕ) (g₀ h g : List ℕ) (tries level below i : ℕ) : Type 0 where
+  pub state : State
+  pub sweep : Sweep (caresOf owner ws) (plan owner ws n g₀) state level below i
+  pub states : (r : ℕ) → r < length h → RowState owner ws (caresOf owner ws) (state .order) r (getD h r 0) (getD (state .h) r 0)
+  pub size : length (state .h) ≡ length h
+  pub all-rows : length h ≡ n
+  pub cells : state .g ≡ g
+  pub tried : state .tries ≡ tries
+  pub room : tries + maxCells * countOf (openWeight (caresOf owner ws) (state .order)) (length (state .h)) ≤ maxCells * length h
+
+cares-length : (i : ℕ) (ws : List ℕ) → length (caresFrom i ws) ≡ length ws
+unfolding caresBy
+cares-length i [] = refl
+cares-length i (w ∷ ws) = ap suc (cares-length (suc i) ws)
+
+pub going-start : (owner : ℕ) (ws h g : List ℕ) → Marked ws h → Going owner ws (length h) g h g 0 (length ws - 1) 0 0
+unfolding caresIn
+going-start owner ws h g m =
+    let cs = caresOf owner ws in
+    let n : length {A = ℕ} (replicate (length h) 0) ≡ length h = length-replicate (length h) 0 in
+    record {
+      state = record { h = replicate (length h) 0; g = g; tries = 0; order = [] };
+      sweep =
+          sweep-start cs (replicate (length h) 0) g (length ws - 1)
+          (omega (arith, length-map (caresIn ws) (owned owner), cares-length 1 (drop 1 ws), length-drop 1 ws));
+      states = λ r l. row-start owner ws (caresIn ws) r (getD h r 0) _ (getD-replicate (length h) r 0 0 l) (m r l);
+      size = n;
+      all-rows = refl;
+      cells = refl;
+      tried = refl;
+      room = omega (arith, count-all (openWeight cs []) (length {A = ℕ} (replicate (length h) 0)), n);
+    }
+
+-- the row i has no displacement after t tried: the way back, and what is answered then
+pub record Stuck (owner : ℕ) (ws : List ℕ) (n : ℕ) (g₀ h g : List ℕ) (tries i t : ℕ) : Type 0 where
+  pub within : Members.All (Within h (length g)) (caresIn ws)
+  pub ends : {h' g' : List ℕ} → h' ≡ replicate (length h) 0 → g' ≡ undone h (caresIn ws) g
+      → left (record { end = NoFit i t; tries = tries }) h' g' ≡ settled (caresOf owner ws) n g₀
+
+-- what is known of a row i of the level, marked at first: its tries fit, and it is placed or has no displacement
+pub record AtLevel (owner : ℕ) (ws : List ℕ) (n : ℕ) (g₀ h g : List ℕ) (tries level below i first : ℕ) : Type 0 where
+  pub marks : MarkedAt owner ws (caresOf owner ws) i first
+  pub fits : tries + maxCells ≤ maxCells * length h
+  pub low : {f : Fit} {h' g' : List ℕ} → RowPlaced (chainOf owner ws first) i h g f h' g' → (d : ℕ) → f ≡ At d → d < length g
+  pub more : {f : Fit} {h' g' : List ℕ} → RowPlaced (chainOf owner ws first) i h g f h' g' → (d : ℕ) → f ≡ At d → length g ≤ maxCells
+      → Going owner ws n g₀ h' g' (tries + (d + 1)) level below (i + 1)
+  pub stuck : {f : Fit} {h' g' : List ℕ} → RowPlaced (chainOf owner ws first) i h g f h' g' → (t : ℕ) → f ≡ None t → Stuck owner ws n g₀ h' g' tries i t
+
+module _ (owner : ℕ) (ws : List ℕ) (rises : Rises 0 ws) (weighs : Weighs 0 ws) (n : ℕ) (g₀ h g : List ℕ) (tries level below i : ℕ)
+    (go : Going owner ws n g₀ h g tries level below i) where
+  -- the last row is passed
+  pub going-next : length h ≤ i → Going owner ws n g₀ h g tries below 0 0
+  going-next l =
+      record {
+        state = go .state;
+        sweep = sweep-next (caresOf owner ws) (plan owner ws n g₀) (go .state) level below i (omega (arith, go .size)) (go .sweep);
+        states = go .states;
+        size = go .size;
+        all-rows = go .all-rows;
+        cells = go .cells;
+        tried = go .tried;
+        room = go .room;
+      }
+
+  -- no level is left
+  pub going-end : level ≤ 0 → left (record { end = All; tries = tries }) h g ≡ settled (caresOf owner ws) n g₀
+  unfolding settled settle
+  going-end l =
+      let e = sweep-end (caresOf owner ws) (plan owner ws n g₀) (go .state) level below i l (go .sweep) in
+      let z : (r : ℕ) → r < length h → openWeight (caresOf owner ws) (go .state .order) r ≡ 0 = λ r m. omega (arith, go .sweep .most r (omega (arith, go .size))) in
+      let q : h ≡ go .state .h = ext-getD 0 h (go .state .h) (sym (go .size)) (λ r m. row-none owner ws (caresOf owner ws) (go .state .order) rises (go .states r m) (z r m)) in
+      rw (e, go .cells, go .tried, ← q)
+
+  -- at the row i, of the weight w and with its first vector first
+  module _ (l : i < length h) (w first : ℕ) (ew : w ≡ weightFrom ws (headOf (length ws) (getD h i 0))) (ef : first ≡ headOf (length ws) (getD h i 0)) where
+    weight-is : w ≡ openWeight (caresOf owner ws) (go .state .order) i
+    weight-is = ew ∙ row-weight owner ws (caresOf owner ws) (go .state .order) weighs (go .states i l)
+
+    below-level : (w ≡ level → ⊥) → w < level
+    below-level n =
+        ⊎-elim (λ e. absurd (n e)) (λ m. m) (eq-or-lt-of-le (rw (← weight-is) at (go .sweep .most i (omega (arith, go .size)))))
+
+    pass : (b : ℕ) → below ≤ b → w ≤ b → (0 < level → b < level) → Going owner ws n g₀ h g tries level b (i + 1)
+    pass b m o u =
+        record {
+          state = go .state;
+          sweep = sweep-pass (caresOf owner ws) (plan owner ws n g₀) (go .state) level below i (go .sweep) b m (rw weight-is at o) u;
+          states = go .states;
+          size = go .size;
+          all-rows = go .all-rows;
+          cells = go .cells;
+          tried = go .tried;
+          room = go .room;
+        }
+
+    -- it is of another weight, no greater than one passed
+    pub going-pass : (w ≡ level → ⊥) → w ≤ below → Going owner ws n g₀ h g tries level below (i + 1)
+    going-pass n m = pass below (omega arith) m (go .sweep .under)
+
+    -- it is of another weight, the greatest passed
+    pub going-under : (w ≡ level → ⊥) → below < w → Going owner ws n g₀ h g tries level w (i + 1)
+    going-under n m = pass w (omega arith) (omega arith) (λ k. below-level n)
+
+    -- it is of the level
+    module _ (p : 0 < level) (e : w ≡ level) (rows : Members.All (λ c. c .row < n) (caresIn ws)) where
+      at-level : openWeight (caresOf owner ws) (go .state .order) i ≡ level
+      at-level = sym weight-is ∙ e
+
+      inside : i < length (go .state .h)
+      inside = omega (arith, go .size)
+
+      going-marked : MarkedAt owner ws (caresOf owner ws) i first
+      going-marked = rw ef (row-open owner ws (caresOf owner ws) (go .state .order) (go .states i l) (omega (arith, at-level)))
+
+      fewer : countOf (openWeight (caresOf owner ws) (i ∷ go .state .order)) (length (go .state .h)) < countOf (openWeight (caresOf owner ws) (go .state .order)) (length (go .state .h))
+      fewer = open-less (caresOf owner ws) (go .state .order) i (length (go .state .h)) (omega (arith, at-level)) inside
+
+      -- its tries fit
+      going-room : tries + maxCells ≤ maxCells * length h
+      going-room = omega (arith, fewer, go .room)
+
+      -- the answer f of its placing
+      module _ (f : Fit) (h' g' : List ℕ) (placed : RowPlaced (chainOf owner ws first) i h g f h' g') where
+        answer : firstFit (go .state .g) (inRow i (caresOf owner ws)) ≡ f
+        answer = rw (go .cells, ← going-marked .is) (sym (placed .is))
+
+        -- there is no displacement
+        going-stuck : (t : ℕ) → f ≡ None t → Stuck owner ws n g₀ h' g' tries i t
+        unfolding settled settle
+        going-stuck t q =
+            let e = sweep-stuck (caresOf owner ws) (plan owner ws n g₀) (go .state) level below i (go .sweep) inside p at-level t (answer ∙ q) in
+            let b = way-back owner ws n g₀ rows h g (go .state) (ap (λ (x : Placing). x .state) e) (go .all-rows) (go .states) (go .cells) in
+            let a = placed .kept t q in
+            rw (a .0, a .1)
+            (record {
+              within = b .within;
+              ends = λ {h'} {g'} x y. rw (e, x, y, b .back, go .all-rows, go .tried);
+            })
+
+        module _ (d : ℕ) (q : f ≡ At d) where
+          -- the displacement is below the number of cells
+          going-low : d < length g
+          going-low =
+              fit-low g (chainOf owner ws first) d
+              (omega (arith, length-map (chain ws first) (owned owner), chain-pos ws rises first (going-marked .low) (going-marked .high)))
+              (sym (placed .is) ∙ q)
+
+          -- the row is placed
+          going-more : length g ≤ maxCells → Going owner ws n g₀ h' g' (tries + (d + 1)) level below (i + 1)
+          going-more m =
+              let low = going-low in
+              rw (placed .rows-are d q, placed .cells-are d q)
+              (record {
+                state = placeRow (caresOf owner ws) (go .state) i d;
+                sweep = sweep-more (caresOf owner ws) (plan owner ws n g₀) (go .state) level below i (go .sweep) inside p at-level d (answer ∙ q);
+                states = λ r j. row-set owner ws (caresOf owner ws) (go .state .order) h (go .state .h) i d (omega arith) l inside r (go .states r (rw length-set at j));
+                size = simp length-set (go .size);
+                all-rows = simp length-set (go .all-rows);
+                cells = rw (go .cells, going-marked .is);
+                tried = rw add-one (ap (λ (t : ℕ). t + suc d) (go .tried));
+                room = simp length-set (omega (arith, fewer, go .room));
+              })
+
+      pub going-level : AtLevel owner ws n g₀ h g tries level below i first
+      going-level =
+          record {
+            marks = going-marked;
+            fits = going-room;
+            low = λ {f} {h'} {g'} r d q. going-low f h' g' r d q;
+            more = λ {f} {h'} {g'} r d q. going-more f h' g' r d q;
+            stuck = λ {f} {h'} {g'} r t q. going-stuck f h' g' r t q;
+          }

@@ -1,0 +1,4 @@
+-- The cells as bits, and the search by them.
+pub mod Words
+pub mod Bits
+pub mod Search

@@ -1,0 +1,158 @@
+-- The bits of the cells beside the cells: as they start, after a cell is taken, and what they say of a row. Assumes nothing.
+use Prim.Native.Nat.{ℕ, zero, suc, _+_, _-_, _*_, _/_, _%_, _^_, max, _≤_, _<_}
+use native.Mathlib.Nat.{zero-div}
+use native.Mathlib.Omega.{arith}
+use mathlib.Core.Path.{_≡_, refl, sym, ap, ap₂, _∙_}
+use mathlib.Core.Bool.{Bool, true, false, _&&_}
+use mathlib.Core.List.{List, [], _∷_}
+use mathlib.Core.Logic.{_⊎_, inl, inr, ⊎-elim}
+use lib.Bits.{bitOr}
+use lib.Dec.{eqb, ltb}
+use lib.ListN.{length, getD, set, take, replicate, length-set, length-replicate, getD-replicate}
+use lib.Seq.{getD-set-same, getD-set-other, getD-take, take-all}
+use borrow.Author.Tests.{ltb-true, ne-eqb, eqb-true, eqb-false}
+use Rattle.lists.proofs.Tests.{and-true, le-or-lt}
+use Rattle.vectors.specs.Bits.{bit}
+use Rattle.vectors.specs.Bounds.{maxCells}
+use Rattle.rows.specs.Care.{Care}
+use Rattle.rows.specs.Fit.{cellOf, isFree, inside, clear}
+use Rattle.rows.specs.Inner.Taken.{takenWords, bitIn, shutBit, Taken, shutRow}
+use Rattle.rows.proofs.Taken.Words.{window-low, window-high, set-here, set-there}
+
+-- ---- a window
+
+pub window-bits : (taken : List ℕ) (start : ℕ) → getD taken (start / 64) 0 < 2 ^ 64 → (t : ℕ) → t < 64
+    → bit (bitOr (getD taken (start / 64) 0 / 2 ^ (start % 64)) (getD taken (start / 64 + 1) 0 * 2 ^ 1 % 2 ^ 64 * 2 ^ (63 - start % 64) % 2 ^ 64)) t
+    ≡ bitIn taken (start + t)
+window-bits taken start a< t t< = go (le-or-lt 64 (start % 64 + t))
+  where
+    go : (64 ≤ start % 64 + t) ⊎ (start % 64 + t < 64)
+        → bit (bitOr (getD taken (start / 64) 0 / 2 ^ (start % 64)) (getD taken (start / 64 + 1) 0 * 2 ^ 1 % 2 ^ 64 * 2 ^ (63 - start % 64) % 2 ^ 64)) t
+        ≡ bitIn taken (start + t)
+    go (inr l) =
+        let p : start / 64 ≡ (start + t) / 64 = omega arith in
+        let q : start % 64 + t ≡ (start + t) % 64 = omega arith in
+        window-low (getD taken (start / 64) 0) (getD taken (start / 64 + 1) 0) (start % 64) (omega arith) t l
+        ∙ ap₂ (λ (i k : ℕ). bit (getD taken i 0) k) p q
+    go (inl l) =
+        let p : start / 64 + 1 ≡ (start + t) / 64 = omega arith in
+        let q : start % 64 + t - 64 ≡ (start + t) % 64 = omega arith in
+        window-high (getD taken (start / 64) 0) (getD taken (start / 64 + 1) 0) (start % 64) (omega arith) a< t t< l
+        ∙ ap₂ (λ (i k : ℕ). bit (getD taken i 0) k) p q
+
+-- ---- what the bits say of a row
+
+both : (f k : Bool) → max (shutBit f) (shutBit k) ≡ shutBit (f && k)
+both false false = refl
+both false true = refl
+both true false = refl
+both true true = refl
+
+shut-true : (b : Bool) → shutBit b ≡ 0 → b ≡ true
+shut-true true e = refl
+shut-true false e = absurd (omega arith)
+
+shut-false : (b : Bool) → shutBit b ≡ 1 → b ≡ false
+shut-false true e = absurd (omega arith)
+shut-false false e = refl
+
+module _ (g taken : List ℕ) (bits : Taken g taken) (few : length g ≤ maxCells) (d t : ℕ) (t< : t < 64) where
+  row-is : (m : List Care) → inside (length g) d m ≡ true → shutRow taken (d + t) m ≡ shutBit (clear g (d + t) m)
+  unfolding shutRow inside clear
+  row-is [] h = refl
+  row-is (c ∷ m) h =
+      let p = and-true (ltb (cellOf c d) (length g)) (inside (length g) d m) h in
+      let l : cellOf c d < length g = ltb-true (cellOf c d) (length g) (p .0) in
+      ap₂ max (bits .bits (cellOf c (d + t)) (omega arith)) (row-is m (p .1)) ∙ both (isFree g (cellOf c (d + t))) (clear g (d + t) m)
+
+  module _ (m : List Care) (h : inside (length g) d m ≡ true) (x : ℕ) (e : bit x t ≡ shutRow taken (d + t) m) where
+    pub row-open : bit x t ≡ 0 → clear g (d + t) m ≡ true
+    row-open z = shut-true (clear g (d + t) m) (sym (row-is m h) ∙ sym e ∙ z)
+
+    pub row-shut : bit x t ≡ 1 → clear g (d + t) m ≡ false
+    row-shut z = shut-false (clear g (d + t) m) (sym (row-is m h) ∙ sym e ∙ z)
+
+-- ---- a cell is taken: its bit is set
+
+module _ (taken : List ℕ) (c : ℕ) (low : c / 64 < length taken) where
+  bit-here : bitIn (set taken (c / 64) (bitOr (getD taken (c / 64) 0) (1 * 2 ^ (c % 64) % 2 ^ 64))) c ≡ 1
+  bit-here = ap (λ (w : ℕ). bit w (c % 64)) (getD-set-same taken (c / 64) _ 0 low) ∙ set-here (getD taken (c / 64) 0) (c % 64) (omega arith)
+
+  bit-there : (e : ℕ) → (e ≡ c → ⊥) → bitIn (set taken (c / 64) (bitOr (getD taken (c / 64) 0) (1 * 2 ^ (c % 64) % 2 ^ 64))) e ≡ bitIn taken e
+  bit-there e n = by (eqb (e / 64) (c / 64)) refl
+    where
+      x : ℕ
+      x = bitOr (getD taken (c / 64) 0) (1 * 2 ^ (c % 64) % 2 ^ 64)
+
+      by : (b : Bool) → eqb (e / 64) (c / 64) ≡ b → bitIn (set taken (c / 64) x) e ≡ bitIn taken e
+      by true q =
+          let k : e / 64 ≡ c / 64 = eqb-true (e / 64) (c / 64) q in
+          ap (λ (i : ℕ). bit (getD (set taken (c / 64) x) i 0) (e % 64)) k
+          ∙ ap (λ (w : ℕ). bit w (e % 64)) (getD-set-same taken (c / 64) x 0 low)
+          ∙ set-there (getD taken (c / 64) 0) (c % 64) (omega arith) (e % 64) (omega arith) (λ r. n (omega arith))
+          ∙ ap (λ (i : ℕ). bit (getD taken i 0) (e % 64)) (sym k)
+      by false q = ap (λ (w : ℕ). bit w (e % 64)) (getD-set-other taken (c / 64) (e / 64) x 0 (eqb-false (e / 64) (c / 64) q))
+
+  -- the cells g become g', where c alone is taken besides
+  pub taken-more : (g g' : List ℕ) → Taken g taken → (getD g' c 0 ≡ 0 → ⊥) → ((e : ℕ) → (e ≡ c → ⊥) → getD g' e 0 ≡ getD g e 0)
+      → Taken g' (set taken (c / 64) (bitOr (getD taken (c / 64) 0) (1 * 2 ^ (c % 64) % 2 ^ 64)))
+  taken-more g g' s own same = record { size = length-set taken (c / 64) _ ∙ s .size; bits = λ e h. by e h (eqb e c) refl }
+    where
+      by : (e : ℕ) → e < 64 * takenWords → (b : Bool) → eqb e c ≡ b
+          → bitIn (set taken (c / 64) (bitOr (getD taken (c / 64) 0) (1 * 2 ^ (c % 64) % 2 ^ 64))) e ≡ shutBit (isFree g' e)
+      by e h true q = rw (eqb-true e c q, ne-eqb (getD g' c 0) 0 own) bit-here
+      by e h false q = let n = eqb-false e c q in rw (same e n) (bit-there e n ∙ s .bits e h)
+
+pub taken-put : (g taken : List ℕ) (c v : ℕ) → Taken g taken → c < length g → length g ≤ maxCells → 0 < v
+    → Taken (set g c v) (set taken (c / 64) (bitOr (getD taken (c / 64) 0) (1 * 2 ^ (c % 64) % 2 ^ 64)))
+taken-put g taken c v s l few p =
+    taken-more taken c (omega (arith, s .size)) g (set g c v) s (λ z. omega (arith, getD-set-same g c v 0 l)) (λ e n. getD-set-other g c e v 0 n)
+
+-- ---- the bits made from the cells: the first i cells are looked at
+
+-- the word of a cell among the first i; past them it is 0
+first-in : (g : List ℕ) (i c : ℕ) → c < i → getD (take i g) c 0 ≡ getD g c 0
+first-in g i c l = getD-take i g c 0 l
+
+first-out : (g : List ℕ) (i c : ℕ) → i ≤ c → getD (take i g) c 0 ≡ 0
+first-out g zero c l = refl
+first-out [] (suc i) c l = refl
+first-out (w ∷ g) (suc i) zero l = absurd (omega arith)
+first-out (w ∷ g) (suc i) (suc c) l = first-out g i c (omega arith)
+
+first-next : (g : List ℕ) (i c : ℕ) → (c ≡ i → ⊥) → getD (take (i + 1) g) c 0 ≡ getD (take i g) c 0
+first-next g i c n =
+    ⊎-elim
+    (λ l. first-out g (i + 1) c (omega (arith, n)) ∙ sym (first-out g i c l))
+    (λ l. first-in g (i + 1) c (omega arith) ∙ sym (first-in g i c l))
+    (le-or-lt i c)
+
+pub taken-none : (g taken : List ℕ) → taken ≡ replicate takenWords 0 → Taken (take 0 g) taken
+taken-none g taken e =
+    record {
+      size = ap length e ∙ length-replicate {A = ℕ} takenWords 0;
+      bits = λ c h.
+          ap (λ (l : List ℕ). bitIn l c) e
+          ∙ ap (λ (w : ℕ). bit w (c % 64)) (getD-replicate takenWords (c / 64) 0 0 (omega arith)) ∙ ap (λ (n : ℕ). n % 2) (zero-div (2 ^ (c % 64)));
+    }
+
+module _ (g taken : List ℕ) (i : ℕ) (s : Taken (take i g) taken) where
+  -- the cell i is free
+  pub taken-free : getD g i 0 ≡ 0 → Taken (take (i + 1) g) taken
+  taken-free z = record { size = s .size; bits = λ c h. s .bits c h ∙ ap (λ (w : ℕ). shutBit (eqb w 0)) (sym (same c (eqb c i) refl)) }
+    where
+      same : (c : ℕ) (b : Bool) → eqb c i ≡ b → getD (take (i + 1) g) c 0 ≡ getD (take i g) c 0
+      same c true q = rw (eqb-true c i q) (first-in g (i + 1) i (omega arith) ∙ z ∙ sym (first-out g i i (omega arith)))
+      same c false q = first-next g i c (eqb-false c i q)
+
+  -- the cell i is taken
+  pub taken-shut : i < length g → length g ≤ maxCells → (getD g i 0 ≡ 0 → ⊥)
+      → Taken (take (i + 1) g) (set taken (i / 64) (bitOr (getD taken (i / 64) 0) (1 * 2 ^ (i % 64) % 2 ^ 64)))
+  taken-shut l few z =
+      taken-more taken i (omega (arith, s .size)) (take i g) (take (i + 1) g) s
+      (λ q. z (sym (first-in g (i + 1) i (omega arith)) ∙ q))
+      (first-next g i)
+
+-- all cells are passed
+pub taken-all : (g taken : List ℕ) (i : ℕ) → length g ≤ i → Taken (take i g) taken → Taken g taken
+taken-all g taken i l t = rw (take-all i g l) at t

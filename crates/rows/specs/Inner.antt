@@ -1,0 +1,3 @@
+-- What the inner contracts cite.
+pub mod Chains
+pub mod Taken

@@ -1,0 +1,6 @@
+pub mod Spans
+pub mod Unique
+pub mod Labels
+pub mod Count
+pub mod Fixed
+pub mod Walking

@@ -1,0 +1,16 @@
+-- `span::tags::noted` meets its contract. Assumes nothing.
+use borrow.Author.Tests.{eq-eqb, ne-eqb, not-true, not-false}
+use Rattle.span.proofs.tags.noted.Statement.{statement}
+use Rattle.span.proofs.tags.noted.Tie as tie
+
+returns : tie.Need-returns
+returns c = rw (not-true (c .before .args .inside) (c .if1 .taken))
+
+returns-2 : tie.Need-returns-2
+returns-2 c = rw (not-false (c .before .before .args .inside) (c .before .if1 .left), eq-eqb _ _ (c .if2 .taken))
+
+returns-3 : tie.Need-returns-3
+returns-3 c = rw (not-false (c .before .before .args .inside) (c .before .if1 .left), ne-eqb _ _ (c .if2 .left))
+
+pub noted-spec : {M : Type 1} → statement M
+noted-spec = tie.close (tie.spec returns returns-2 returns-3)

@@ -1,0 +1,4 @@
+pub mod Within
+pub mod Span
+pub mod Fixed
+pub mod Inner

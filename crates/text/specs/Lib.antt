@@ -1,9 +1,0 @@
-pub mod Input
-pub mod InputSamples
-pub mod Ascii
-pub mod Decimal
-pub mod Line
-pub mod Print
-pub mod PrintSamples
-pub mod Answer
-pub mod Inner
