@@ -16,7 +16,7 @@
 extern "C" {
 #endif
 
-/* The record of a unit, which the builds write and the others read:
+/* The record of a unit, which the builds write and the other two read:
  *   [0] n          inputs, 1 to 64
  *   [1] p          variables
  *   [2] n1         row variables, the first n1 of the p
@@ -45,17 +45,10 @@ uint64_t igu_build_given(size_t n, size_t p, size_t n1, size_t L, const uint64_t
                          uint64_t record[IGU_RECORD_WORDS]);
 
 /* Returns refusal + 256 * index. With record and tables as a build left them, and x of n bits: the index i, 1 to k, exactly when x is
- * vector i in every bit, else 0. With any other record and tables: the answer of document 01's rule, or refusal 14; 14 too where any
+ * vector i in every bit, else 0. With any other record and tables: the answer that the rules (docs/SCOPE.md, 9) give, or refusal 14; 14 too where any
  * of the 24 variable words is above 2^17 - 1. Writes nothing. */
 uint64_t igu_lookup(const uint64_t record[IGU_RECORD_WORDS], const uint16_t *h, size_t h_len, const uint16_t *g, size_t g_len,
                     const uint64_t *aux, size_t aux_len, uint64_t x);
-
-/* Looks up count keys, each as igu_lookup does, in about 3 ns a key past about 1 us for the call. Writes indices[j], the index of keys[j],
- * or 0 beside a refusal, for each j below count, and nothing else. Returns refusal + 256 * place of the first key that is refused, its
- * place counted from 1; 0 where none is. Where indices_len is below count: refusal 20, place 0, and nothing is written. */
-uint64_t igu_lookup_many(const uint64_t record[IGU_RECORD_WORDS], const uint16_t *h, size_t h_len, const uint16_t *g, size_t g_len,
-                         const uint64_t *aux, size_t aux_len, const uint64_t *keys, size_t count, uint16_t *indices,
-                         size_t indices_len);
 
 /* Returns the refusal, and writes the vector with number i, or 0 beside a refusal. With record and tables as a build left them, and i
  * of 1 to k, that is vector i of the list. Writes nothing else. */

@@ -1,5 +1,5 @@
 -- What the calls of the boundary give, from what the calls of the unit give. Assumes nothing.
-use Prim.Native.Nat.{ℕ, _%_, _^_, _<_}
+use Prim.Native.Nat.{ℕ, _<_}
 use native.Mathlib.Omega.{arith}
 use mathlib.Core.Path.{_≡_, refl, sym, ap, ap₂, _∙_}
 use mathlib.Core.Bool.{Bool, true, false, cond}
@@ -16,10 +16,7 @@ use Rattle.recover.specs.Recover.{notRecovered, recoverOf}
 use Rattle.build.proofs.Places.{placeLimit}
 use Rattle.lookup.proofs.Indices.{found-index}
 use Rattle.bridge.specs.Flat.{variableAt, flatOf, variableWords, unitAt, allInRange}
-use Rattle.many.specs.declared.Many.{Many}
-use Rattle.many.specs.Lookups as many
-use Rattle.many.proofs.Keys.{many-same}
-use Rattle.bridge.specs.Calls.{answer, left, leftBy, indexed, manyCall, buildCall, givenCall, foundIn, recoveredIn, lookupCall}
+use Rattle.bridge.specs.Calls.{answer, left, leftBy, buildCall, givenCall, foundIn, recoveredIn, lookupCall}
 
 -- ---- the builds
 
@@ -69,21 +66,3 @@ module _ (words : List ℕ) (t : Tables) (x : ℕ) where
 
 pub index-fits : (u : Record) (t : Tables) (x : ℕ) (f : Found) → f ≡ lookupOf u t x → f .index < 65536
 index-fits u t x f e = omega (arith, found-index u t x, ap (λ (f : Found). f .index) e)
-
--- ---- many keys
-
-module _ (words : List ℕ) (t : Tables) (keys old : List ℕ) (m : Many) (l : List ℕ) (a : ℕ) (i : a ≡ answer (m .refusal) (m .place % 2 ^ 56)) where
-  many-is : (look : ℕ → Found) → ((x : ℕ) → look x ≡ foundIn words t x) → many.left m l ≡ many.lookupMany look keys old → indexed a l ≡ manyCall words t keys old
-  unfolding manyCall
-  many-is look e f =
-      ap (λ (b : ℕ). indexed b l) i
-      ∙ ap (λ (r : many.Left). indexed (answer (r .answer .refusal) (r .answer .place % 2 ^ 56)) (r .indices)) (f ∙ many-same look (foundIn words t) e keys old)
-
-  pub many-unread : allInRange (variableWords words) ≡ false → many.left m l ≡ many.lookupMany (λ x. notFound 14) keys old → indexed a l ≡ manyCall words t keys old
-  unfolding foundIn
-  many-unread e = many-is (λ x. notFound 14) (λ x. sym (ap (foundBy words t x) e))
-
-  pub many-read : (u : Record) → allInRange (variableWords words) ≡ true → u ≡ unitAt words → many.left m l ≡ many.lookupMany (lookupOf u t) keys old
-      → indexed a l ≡ manyCall words t keys old
-  unfolding foundIn
-  many-read u e v = many-is (lookupOf u t) (λ x. ap (λ (u : Record). lookupOf u t x) v ∙ sym (ap (foundBy words t x) e))

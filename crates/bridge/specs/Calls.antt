@@ -1,5 +1,5 @@
 -- The calls of the boundary, over the definitions of the unit.
-use Prim.Native.Nat.{ℕ, _+_, _*_, _%_, _^_}
+use Prim.Native.Nat.{ℕ, _+_, _*_}
 use mathlib.Core.Bool.{cond}
 use mathlib.Core.List.{List, map}
 use Rattle.lookup.specs.declared.Found.{Found}
@@ -8,7 +8,6 @@ use Rattle.record.specs.Tables.{Tables}
 use Rattle.build.specs.Build.{Outcome, buildChosen, buildGiven}
 use Rattle.lookup.specs.Lookup.{notFound, lookupOf}
 use Rattle.recover.specs.Recover.{notRecovered, recoverOf}
-use Rattle.many.specs.Lookups.{lookupMany}
 use Rattle.bridge.specs.Flat.{variableAt, flatOf, unitAt, variableWords, allInRange}
 
 -- the answer: the refusal, and above its 8 bits the place or the index
@@ -48,16 +47,3 @@ recoveredIn words t i = cond (allInRange (variableWords words)) (recoverOf (unit
 unfoldable pub lookupCall : List ℕ → Tables → ℕ → ℕ
 unfolding foundIn
 lookupCall words t x = let f = foundIn words t x in answer (f .refusal) (f .index)
-
--- what looking up many keys leaves: its answer and every word of the indices
-pub record Indexed : Type 0 where
-  pub answer : ℕ
-  pub indices : List ℕ
-
-abbrev pub indexed : ℕ → List ℕ → Indexed
-indexed r indices = record { answer = r; indices = indices }
-
--- refusal + 256 * place; of a place the lowest 56 bits, more than any memory has keys
-unfoldable pub manyCall : List ℕ → Tables → List ℕ → List ℕ → Indexed
-unfolding foundIn lookupMany
-manyCall words t keys old = let l = lookupMany (foundIn words t) keys old in indexed (answer (l .answer .refusal) (l .answer .place % 2 ^ 56)) (l .indices)

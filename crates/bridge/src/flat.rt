@@ -2,7 +2,7 @@
 ghost use mathlib.Core.Path.{_≡_};
 ghost use mathlib.Core.Bool.{true};
 ghost use mathlib.Core.List.{map};
-ghost use Prim.Native.Nat.{_<_, _%_, _^_};
+ghost use Prim.Native.Nat.{_<_, _^_};
 ghost use lib.ListN.{length};
 ghost use mir.Syntax.{w64};
 ghost use mir.Val.{toZ, ofZ};
@@ -203,11 +203,4 @@ pub(crate) fn answer(refusal: u8, number: usize) -> u64
     ensures { λ r. ⌜ r ≡ calls.answer refusal number ⌝ }
 {
     refusal as u64 + 256 * (number as u64)
-}
-
-// The same of a place with no bound but its type's.
-pub(crate) fn many_answer(refusal: u8, place: usize) -> u64
-    ensures { λ r. ⌜ r ≡ calls.answer refusal (place % 2 ^ 56) ⌝ }
-{
-    refusal as u64 + ((place as u64) << 8)
 }

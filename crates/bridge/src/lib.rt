@@ -1,8 +1,8 @@
-// The unit for C and Rust: five functions over slices and a flat record of 40 words.
+// The unit for C and Rust: four functions over slices and a flat record of 40 words.
 ghost use mathlib.Core.Path.{_≡_};
 ghost use mathlib.Core.List.{_∷_, []};
 ghost use Rattle.record.specs.Tables.{lent};
-ghost use Rattle.bridge.specs.Calls.{left, indexed, buildCall, givenCall, lookupCall, manyCall, recoveredIn};
+ghost use Rattle.bridge.specs.Calls.{left, buildCall, givenCall, lookupCall, recoveredIn};
 use flat::WORDS;
 use vectors::MAX_VARIABLES;
 
@@ -66,29 +66,6 @@ pub extern "C" fn igu_lookup(words: &[u64; WORDS], h: &[u16], g: &[u16], aux: &[
     let variables = flat::variables(&all[8..32]);
     let found = unit::lookup(flat::unit(words, variables), h, g, aux, x);
     flat::answer(found.refusal, found.index)
-}
-
-// The index of each key goes to indices. The answer is the refusal of the first key that is refused, and 256 times its number.
-#[no_mangle]
-pub extern "C" fn igu_lookup_many(
-    words: &[u64; WORDS],
-    h: &[u16],
-    g: &[u16],
-    aux: &[u64],
-    keys: &[u64],
-    indices: &mut [u16],
-) -> u64
-    ensures { λ r. ⌜ indexed r (now (indices .exit))
-        ≡ manyCall (now (words .entry)) (lent (now (h .entry)) (now (g .entry)) (now (aux .entry))) (now (keys .entry)) (now (indices .entry)) ⌝ }
-{
-    if !flat::readable(words) {
-        let refused = many::refuse_many(keys, indices);
-        return flat::many_answer(refused.refusal, refused.place);
-    }
-    let all = &words[..];
-    let variables = flat::variables(&all[8..32]);
-    let found = many::lookup_many(flat::unit(words, variables), h, g, aux, keys, indices);
-    flat::many_answer(found.refusal, found.place)
 }
 
 // The refusal; the registered vector with the number i goes to vector.

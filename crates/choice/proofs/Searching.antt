@@ -1,5 +1,5 @@
 pub mod Order
 pub mod Best
-pub mod Rows
+pub mod Lines
 pub mod Tying
 pub mod Answered

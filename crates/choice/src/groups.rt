@@ -1,11 +1,11 @@
 // Groups of vectors that agree on all variables so far. A variable splits each group in two, the members with 0 before those with 1. A
 // half with fewer than two members is dropped: nothing in it can be told apart any further.
-ghost use Prim.Native.Nat.{_+_, _≤_, _<_};
+ghost use Prim.Native.Nat.{_≤_, _<_};
 ghost use lib.ListN.{length};
 ghost use Rattle.lists.specs.Members.{All};
 ghost use Rattle.choice.specs.Inner.Split.{part, refined, whole};
 ghost use Rattle.vectors.specs.Bounds.{maxVectors};
-ghost use Rattle.choice.specs.Inner.Groups.{cut, groupsOf, valueAt, Cuts, Shape, GroupsAre, Room, Adds, Holds};
+ghost use Rattle.choice.specs.Inner.Groups.{groupsOf, valueAt, Shape, GroupsAre, Room, Adds};
 use vectors::MAX_WORDS;
 
 // The members, indices from 0, group after group, and how long each group is.
@@ -86,54 +86,44 @@ fn keep_half(
     }
 }
 
-// Splits each group by the value under the mask, those with 0 before those with 1.
-fn split_all(
-    vectors: &[u64],
-    mask: u64,
-    order: &[u16],
-    sizes: &[u16],
-    out: &mut [u16],
-    out_sizes: &mut [u16],
-) -> Extent
-    requires { ⌜ Cuts (length (now vectors)) (now sizes) (now order) ⌝ }
-    requires { ⌜ (length (now order) ≤ maxVectors) × (length (now order) < length (now out)) × (length (now order) < length (now «out_sizes»)) ⌝ }
-    ensures { λ r. ⌜ Holds (refined (valueAt (now (vectors .entry)) mask) (cut (now (sizes .entry)) (now (order .entry)))) (now (out .exit)) (now («out_sizes» .exit)) r ⌝ }
-{
-    let mut at = Extent {
-        members: 0,
-        count: 0,
-    };
-    let mut from = 0;
-    let mut g = 0;
-    while g < sizes.len() {
-        let to = from + sizes[g] as usize;
-        at = keep_half(vectors, mask, 0, &order[from..to], out, out_sizes, at);
-        at = keep_half(vectors, mask, 1, &order[from..to], out, out_sizes, at);
-        from = to;
-        g += 1;
-    }
-    at
-}
-
-// The groups after one more mask.
+// The groups after one more mask: each is split by the value under it, the members with 0 before those with 1.
 pub(crate) fn refined(vectors: &[u64], mask: u64, groups: Groups) -> Groups
     requires { ⌜ (length (now vectors) ≤ maxVectors) × Shape (length (now vectors)) groups ⌝ }
     ensures { λ r. ⌜ GroupsAre (length (now (vectors .entry))) (refined (valueAt (now (vectors .entry)) mask) (groupsOf groups)) r ⌝ }
 {
     let order = groups.order;
     let sizes = groups.sizes;
-    let m = groups.members;
-    let q = groups.count;
     let mut next = [0u16; MAX_WORDS];
     let mut next_sizes = [0u16; MAX_WORDS];
-    let at = split_all(
-        vectors,
-        mask,
-        &order[..m],
-        &sizes[..q],
-        &mut next,
-        &mut next_sizes,
-    );
+    let mut at = Extent {
+        members: 0,
+        count: 0,
+    };
+    let mut from = 0;
+    let mut g = 0;
+    while g < groups.count {
+        let to = from + sizes[g] as usize;
+        at = keep_half(
+            vectors,
+            mask,
+            0,
+            &order[from..to],
+            &mut next,
+            &mut next_sizes,
+            at,
+        );
+        at = keep_half(
+            vectors,
+            mask,
+            1,
+            &order[from..to],
+            &mut next,
+            &mut next_sizes,
+            at,
+        );
+        from = to;
+        g += 1;
+    }
     Groups {
         order: next,
         sizes: next_sizes,

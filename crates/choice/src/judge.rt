@@ -9,9 +9,9 @@ ghost use Prim.Native.Nat.{_+_, _-_, _≤_, _<_};
 ghost use lib.Count as count;
 ghost use lib.ListN.{length};
 ghost use Rattle.choice.specs.Inner.Layout.{maxBlocks};
-ghost use Rattle.choice.specs.Inner.Gain.{mostOf, pairGain};
+ghost use Rattle.choice.specs.Inner.Gain.{wholeGain, mostOf, pairGain, Counts};
 ghost use Rattle.vectors.specs.Bounds.{maxInputs};
-ghost use Rattle.choice.specs.Inner.Judged.{maxGain, columnsSize, crossAt, tallyAt, gainAt, Pairs, Sheet, Judges};
+ghost use Rattle.choice.specs.Inner.Judged.{maxGain, columnsSize, crossAt, tallyAt, gainAt, Pairs, Sheet, WholeIs, Judges};
 
 // The XOR of the columns of inputs i and j in block w; input 0 is none.
 fn crossed(columns: &[u64], i: usize, j: usize, w: usize) -> u64
@@ -40,6 +40,12 @@ fn ones_of_three(x: u64, y: u64, z: u64) -> u64
     ones(xy ^ z) + 2 * ones((x & y) | (xy & z))
 }
 
+// What the large groups tell apart; hopeless where that was given up, since the best so far cannot be passed any more.
+struct Large {
+    gain: u64,
+    hopeless: bool,
+}
+
 // At most so many pairs are told apart in groups of these sizes: halves.
 pub(crate) fn most(sizes: &[u16]) -> u64
     requires { ⌜ mostOf (now sizes) ≤ maxGain ⌝ }
@@ -55,9 +61,43 @@ pub(crate) fn most(sizes: &[u16]) -> u64
     sum
 }
 
+// Of the large groups: a block's tally is added to its group's, and the group counts where it ends. Most is what all groups have at
+// most; given up where all that is left does not come above beat. As a part of gain, its loop would test i for each block.
+fn whole(columns: &[u64], ends: &[u16], i: usize, j: usize, most: u64, beat: u64) -> Large
+    requires { ⌜ (i ≤ maxInputs) × (j ≤ maxInputs) × (length (now ends) ≤ maxBlocks) × (length (now columns) ≡ columnsSize) × (0 < j) ⌝ }
+    requires { ⌜ Counts (now ends) (tallyAt (now columns) i j) 0 0 ⌝ }
+    requires { ⌜ (wholeGain (now ends) (tallyAt (now columns) i j) 0 0 ≤ maxGain) × (mostOf (now ends) ≤ most) × (most ≤ maxGain) ⌝ }
+    ensures { λ r. ⌜ WholeIs (wholeGain (now (ends .entry)) (tallyAt (now (columns .entry)) i j) 0 0) (most - mostOf (now (ends .entry))) beat r ⌝ }
+{
+    let mut gain: u64 = 0;
+    let mut counted: u64 = 0;
+    let mut room = most;
+    let mut w = 0;
+    while w < ends.len() {
+        counted += ones(crossed(columns, i, j, w));
+        let size = ends[w] as u64;
+        w += 1;
+        if size != 0 {
+            gain += counted * (size - counted);
+            room -= size * size / 4;
+            counted = 0;
+            if gain + room <= beat {
+                return Large {
+                    gain,
+                    hopeless: true,
+                };
+            }
+        }
+    }
+    Large {
+        gain,
+        hopeless: false,
+    }
+}
+
 // Of the small groups, whose pairs fill the blocks from one on: a pair with value 1 is told apart. Start is what was counted before; given up
 // where what the blocks left have at most does not come above beat. Three blocks are counted at a time for as long as three are left. Without
-// the test the compiler would count the others by vectors, which is slower.
+// its test the second loop would be made one of vector instructions, which is slower.
 fn paired(
     columns: &[u64],
     rests: &[u64],
@@ -92,9 +132,7 @@ fn paired(
     gain
 }
 
-// The pairs that the XOR of inputs i and j tells apart, input 0 being none; or some number up to beat, where they are not more. Of the large
-// groups, a block's tally is added to its group's, and the group counts where it ends. Most is what all groups have at most; given up
-// where that of the groups left does not come above beat.
+// The pairs that the XOR of inputs i and j tells apart, input 0 being none; or some number up to beat, where they are not more.
 pub(crate) fn gain(
     columns: &[u64],
     ends: &[u16],
@@ -107,22 +145,9 @@ pub(crate) fn gain(
     requires { ⌜ Sheet (now columns) (now ends) (now rests) most i j ⌝ }
     ensures { λ r. ⌜ Judges (gainAt (now (columns .entry)) (now (ends .entry)) (length (now (rests .entry))) i j) beat r ⌝ }
 {
-    let mut gain: u64 = 0;
-    let mut counted: u64 = 0;
-    let mut room = most;
-    let mut w = 0;
-    while w < ends.len() {
-        counted += ones(crossed(columns, i, j, w));
-        let size = ends[w] as u64;
-        w += 1;
-        if size != 0 {
-            gain += counted * (size - counted);
-            room -= size * size / 4;
-            counted = 0;
-            if gain + room <= beat {
-                return 0;
-            }
-        }
+    let large = whole(columns, ends, i, j, most, beat);
+    if large.hopeless {
+        return 0;
     }
-    paired(columns, rests, i, j, ends.len(), gain, beat)
+    paired(columns, rests, i, j, ends.len(), large.gain, beat)
 }

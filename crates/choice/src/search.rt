@@ -1,17 +1,17 @@
 // The best candidate: the more pairs it tells apart, the fewer it leaves. A candidate is two inputs i < j, with 0 for none in a single
-// input's place. Row 0 has the single inputs, row i the pairs of x_i with later inputs: one loop over the rows goes through the candidates
+// input's place. Line 0 has the single inputs, line i the pairs of x_i with later inputs: one loop over the lines goes through the candidates
 // in the rule's order, so that of equals the first stays. It starts with x_1 as if that told nothing apart, which is right whatever x_1 tells.
 //
-// Candidates with a tied input are not judged (see rule), nor any row after a candidate that tells as much apart as any can.
+// Candidates with a tied input are not judged (see rule), nor any line after a candidate that tells as much apart as any can.
 ghost use mathlib.Core.Path.{_≡_};
-ghost use Prim.Native.Nat.{_+_, _-_, _≤_, _<_};
+ghost use Prim.Native.Nat.{_+_, _≤_, _<_};
 ghost use lib.Dec.{eqb};
 ghost use lib.ListN.{length};
 ghost use Rattle.vectors.specs.Bits.{input};
 ghost use Rattle.vectors.specs.Bounds.{maxInputs};
 ghost use Rattle.choice.specs.Choice.{candidates, bestOf};
 ghost use Rattle.choice.specs.Inner.Judged.{Sheet, Sheets, gainAt, leftBy};
-ghost use Rattle.choice.specs.Inner.Search.{rank, betterOf, Above, Beaten, RowIs, rowsOf};
+ghost use Rattle.choice.specs.Inner.Search.{rank, betterOf, Above, Beaten, LineIs, linesOf};
 use crate::judge;
 use vectors::Kind;
 
@@ -59,7 +59,7 @@ fn better(
 }
 
 // Input i with each later one. None is judged where the best so far tells as much apart as any can, nor where i is tied.
-fn best_row(
+fn best_line(
     columns: &[u64],
     ends: &[u16],
     rests: &[u64],
@@ -71,7 +71,7 @@ fn best_row(
 ) -> Best
     requires { ⌜ (n ≤ maxInputs) × (i ≤ n) × Sheets (now columns) (now ends) (now rests) most n ⌝ }
     requires { ⌜ Beaten tied (gainAt (now columns) (now ends) (length (now rests))) n × Above (gainAt (now columns) (now ends) (length (now rests))) n best (rank i (i + 1)) ⌝ }
-    ensures { λ r. ⌜ RowIs (gainAt (now (columns .entry)) (now (ends .entry)) (length (now (rests .entry)))) n i best r ⌝ }
+    ensures { λ r. ⌜ LineIs (gainAt (now (columns .entry)) (now (ends .entry)) (length (now (rests .entry)))) n i best r ⌝ }
 {
     if most <= best.gain {
         return best;
@@ -88,9 +88,9 @@ fn best_row(
     b
 }
 
-// How many rows the candidates have.
-fn rows_of(n: usize, degree: usize) -> usize
-    ensures { λ r. ⌜ r ≡ rowsOf n degree ⌝ }
+// How many lines the candidates have.
+fn lines_of(n: usize, degree: usize) -> usize
+    ensures { λ r. ⌜ r ≡ linesOf n degree ⌝ }
 {
     if degree == 2 {
         return n;
@@ -113,15 +113,15 @@ pub(crate) fn best_of(
     ensures { λ r. ⌜ r ≡ bestOf (leftBy (now (columns .entry)) (now (ends .entry)) (length (now (rests .entry)))) (candidates n degree) ⌝ }
 {
     let inputs = n as usize;
-    let rows = rows_of(inputs, degree);
+    let lines = lines_of(inputs, degree);
     let mut b = Best {
         i: 0,
         j: 1,
         gain: 0,
     };
     let mut i = 0;
-    while i < rows {
-        b = best_row(columns, ends, rests, most, inputs, tied, i, b);
+    while i < lines {
+        b = best_line(columns, ends, rests, most, inputs, tied, i, b);
         i += 1;
     }
     if b.i == 0 {

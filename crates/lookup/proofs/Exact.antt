@@ -77,13 +77,13 @@ module _ (u : Record) (t : Tables) (vs : List ℕ) (H : Holds u t vs) where
       go (inl c) = sym (answer-out u t x (cellIn u t x) refl c) ∙ none (λ j h e. omega (arith, in-cell x j h e .0))
       go (inr c) = sym (answer-in u t x (cellIn u t x) refl c) ∙ at c _ refl
 
-  -- "gives i exactly when the key equals vector i in every bit"
+  -- SCOPE 16.2: an index comes out exactly where the key is its vector
   pub lookup-hits : (x : ℕ) → x < 2 ^ u .n → (j : ℕ) → j < length vs → (lookupOf u t x ≡ found (suc j) → x ≡ getD vs j 0) × (x ≡ getD vs j 0 → lookupOf u t x ≡ found (suc j))
   lookup-hits x l j h = (
     (λ e. sym (first-equal vs x j (ap (λ (f : Found). f .index) (sym (holds-lookup x l) ∙ e)) .equal)),
     (λ e. holds-lookup x l ∙ ap found (equal-first vs x j (record { below = h; equal = sym e; first = λ a k f. omega (arith, in-cell x a (omega arith) f .1, in-cell x j h (sym e) .1) }))),
   )
 
-  -- ", else zero"
+  -- SCOPE 16.2: and 0 where the key is no vector
   pub lookup-misses : (x : ℕ) → x < 2 ^ u .n → ((j : ℕ) → j < length vs → x ≡ getD vs j 0 → ⊥) → lookupOf u t x ≡ found 0
   lookup-misses x l n = holds-lookup x l ∙ ap found (equal-none vs x (λ j h e. n j h (sym e)))

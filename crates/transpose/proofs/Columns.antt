@@ -61,10 +61,10 @@ turned-at i xs h = columns-at 64 0 xs i h ∙ ap (λ (t : ℕ). column t xs) (ze
 -- 64 words whose bits are those of xs turned
 pub turned-by : (xs ys : List ℕ) → length xs ≡ 64 → length ys ≡ 64 → ((r : ℕ) → r < 64 → getD ys r 0 < 2 ^ 64)
     → ((r c : ℕ) → r < 64 → c < 64 → bitAt ys r c ≡ bitAt xs c r) → ys ≡ turned xs
-turned-by xs ys m n b e = ext-getD 0 ys (turned xs) (n ∙ sym (turned-length xs)) (λ r h. row r (omega arith))
+turned-by xs ys m n b e = ext-getD 0 ys (turned xs) (n ∙ sym (turned-length xs)) (λ r h. word r (omega arith))
   where
-    row : (r : ℕ) → r < 64 → getD ys r 0 ≡ getD (turned xs) r 0
-    row r h =
+    word : (r : ℕ) → r < 64 → getD ys r 0 ≡ getD (turned xs) r 0
+    word r h =
         ext 64 (b r h) (subst (λ (t : ℕ). column r xs < 2 ^ t) m (column-lt r xs)) (λ c k. e r c h k ∙ sym (column-bit r xs c)) ∙ sym (turned-at r xs h)
 
 -- ---- what a caller meets

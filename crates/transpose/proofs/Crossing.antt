@@ -1,4 +1,4 @@
--- The bits of two rows that changed places at a stage's columns. Assumes nothing.
+-- The bits of two words that changed places at a stage's columns. Assumes nothing.
 use Prim.Native.Nat.{ℕ, _+_, _-_, _*_, _/_, _%_, _^_, _≤_, _<_, min}
 use native.Mathlib.Omega.{arith}
 use mathlib.Core.Path.{_≡_, sym, ap, _∙_}
@@ -7,7 +7,7 @@ use lib.Bits.{bitAnd, bitXor, and-step, and-shr, xor-shr}
 use Rattle.lists.proofs.Tests.{le-or-lt}
 use Rattle.vectors.specs.Bits.{bit}
 use Rattle.vectors.proofs.Bits.Laws.{xor-low, bit-shr, bit-word, bit-shl, bit-below}
-use Rattle.transpose.specs.Stage.{Distance, crossing, lowRow, highRow}
+use Rattle.transpose.specs.Stage.{Distance, crossing, lowWord, highWord}
 use Rattle.transpose.proofs.Places.{past, next}
 
 -- ---- bits of XOR and AND
@@ -54,23 +54,23 @@ module _ (j mask : ℕ) (d : Distance j mask) (a b : ℕ) where
       low : (n : ℕ) → min (n % 2) 0 ≡ 0
       low n = omega arith
 
-  pub high-even : (c : ℕ) → c < 64 → c / j % 2 ≡ 0 → bit (highRow j mask a b) c ≡ bit a (c + j)
+  pub high-even : (c : ℕ) → c < 64 → c / j % 2 ≡ 0 → bit (highWord j mask a b) c ≡ bit a (c + j)
   high-even c h e =
       let s : j + c ≡ c + j = omega arith in
       bit-xor b (crossing j mask a b) c ∙ ap (λ (n : ℕ). (bit b c + n) % 2) (crossing-in c h e) ∙ second (b / 2 ^ c) (a / 2 ^ (j + c)) ∙ ap (bit a) s
 
-  pub high-odd : (c : ℕ) → c < 64 → c / j % 2 ≡ 1 → bit (highRow j mask a b) c ≡ bit b c
+  pub high-odd : (c : ℕ) → c < 64 → c / j % 2 ≡ 1 → bit (highWord j mask a b) c ≡ bit b c
   high-odd c h e = bit-xor b (crossing j mask a b) c ∙ ap (λ (n : ℕ). (bit b c + n) % 2) (crossing-out c h e) ∙ none (b / 2 ^ c)
 
-  -- what the row a takes
+  -- what the word a takes
   taken : ℕ
   taken = crossing j mask a b * 2 ^ j
 
-  low-bit : (c n : ℕ) → c < 64 → bit taken c ≡ n → bit (lowRow j mask a b) c ≡ (bit a c + n) % 2
+  low-bit : (c n : ℕ) → c < 64 → bit taken c ≡ n → bit (lowWord j mask a b) c ≡ (bit a c + n) % 2
   unfolding taken
   low-bit c n h e = bit-xor a (taken % 2 ^ 64) c ∙ ap (λ (n : ℕ). (bit a c + n) % 2) (bit-word 64 taken c h ∙ e)
 
-  pub low-even : (c : ℕ) → c < 64 → c / j % 2 ≡ 0 → bit (lowRow j mask a b) c ≡ bit a c
+  pub low-even : (c : ℕ) → c < 64 → c / j % 2 ≡ 0 → bit (lowWord j mask a b) c ≡ bit a c
   unfolding taken
   low-even c h e = low-bit c 0 h (go (le-or-lt j c)) ∙ none (a / 2 ^ c)
     where
@@ -84,7 +84,7 @@ module _ (j mask : ℕ) (d : Distance j mask) (a b : ℕ) where
           odd p q e z = omega arith
       go (inr l) = bit-below (crossing j mask a b) j c l
 
-  pub low-odd : (c : ℕ) → c < 64 → c / j % 2 ≡ 1 → bit (lowRow j mask a b) c ≡ bit b (c - j)
+  pub low-odd : (c : ℕ) → c < 64 → c / j % 2 ≡ 1 → bit (lowWord j mask a b) c ≡ bit b (c - j)
   unfolding taken
   low-odd c h e = low-bit c _ h go ∙ first (a / 2 ^ c) (b / 2 ^ (c - j))
     where

@@ -1,4 +1,4 @@
--- A stage's loop, pair of rows after pair of rows. Assumes nothing.
+-- A stage's loop, pair of words after pair of words. Assumes nothing.
 use Prim.Native.Nat.{ℕ, zero, suc, _+_, _-_, _*_, _/_, _%_, _^_, _≤_, _<_}
 use native.Mathlib.Nat.{add-zero, zero-div, zero-mul}
 use native.Mathlib.Numerals.{add-one}
@@ -13,21 +13,21 @@ use borrow.Author.Tests.{eqb-true, eqb-false}
 use lib.ListN.{length, getD, set, length-set}
 use lib.Seq.{getD-set-same, getD-set-other}
 use Rattle.vectors.specs.Bits.{bit}
-use Rattle.transpose.specs.Stage.{Distance, Exchanged, beside, bitAt, swapped, swappedRows, lowRow, highRow}
+use Rattle.transpose.specs.Stage.{Distance, Exchanged, beside, bitAt, swapped, swappedWords, lowWord, highWord}
 use Rattle.transpose.proofs.Places.{pairOf, lowOf, even-or-odd, same, up, down, low-pair, high-pair, pair-low, pair-high, low-at, block-next, block-le, high-lt, pair-lt}
 use Rattle.transpose.proofs.Crossing.{low-even, low-odd, high-even, high-odd}
 
--- the bits of row r come from where a stage takes them
+-- the bits of word r come from where a stage takes them
 abbrev pub From : ℕ → List ℕ → ℕ → ℕ → Type 0
-From j xs r row = (c : ℕ) → c < 64 → bit row c ≡ bitAt xs (beside j r c) (beside j c r)
+From j xs r word = (c : ℕ) → c < 64 → bit word c ≡ bitAt xs (beside j r c) (beside j c r)
 
--- the first k pairs of rows are exchanged
+-- the first k pairs of words are exchanged
 pub record Part (j k : ℕ) (xs ys : List ℕ) : Type 0 where
   pub long : length ys ≡ 64
   pub done : (r : ℕ) → r < 64 → pairOf j r < k → From j xs r (getD ys r 0)
   pub left : (r : ℕ) → r < 64 → k ≤ pairOf j r → getD ys r 0 ≡ getD xs r 0
 
--- a stage after k pairs, whole blocks of rows
+-- a stage after k pairs, whole blocks of words
 pub record Blocks (j k : ℕ) (xs ys : List ℕ) : Type 0 where
   pub low : k ≤ 32
   pub whole : k / j * j ≡ k
@@ -50,10 +50,10 @@ module _ (ys : List ℕ) (l h a b : ℕ) where
   stored-last m = getD-set-same (set ys l a) h b 0 (rw length-set m)
 
 module _ (j mask : ℕ) (d : Distance j mask) (xs : List ℕ) where
-  from-low : (r : ℕ) → r / j % 2 ≡ 0 → From j xs r (lowRow j mask (getD xs r 0) (getD xs (r + j) 0))
+  from-low : (r : ℕ) → r / j % 2 ≡ 0 → From j xs r (lowWord j mask (getD xs r 0) (getD xs (r + j) 0))
   from-low r e c h = go (even-or-odd (c / j))
     where
-      go : (c / j % 2 ≡ 0) ⊎ (c / j % 2 ≡ 1) → bit (lowRow j mask (getD xs r 0) (getD xs (r + j) 0)) c ≡ bitAt xs (beside j r c) (beside j c r)
+      go : (c / j % 2 ≡ 0) ⊎ (c / j % 2 ≡ 1) → bit (lowWord j mask (getD xs r 0) (getD xs (r + j) 0)) c ≡ bitAt xs (beside j r c) (beside j c r)
       go (inl z) =
           low-even j mask d (getD xs r 0) (getD xs (r + j) 0) c h z
           ∙ ap₂ (bitAt xs) (sym (same j (d .pos) r c (e ∙ sym z))) (sym (same j (d .pos) c r (z ∙ sym e)))
@@ -61,10 +61,10 @@ module _ (j mask : ℕ) (d : Distance j mask) (xs : List ℕ) where
           let s : c - j ≡ beside j c r = omega (arith, down j (d .pos) c r o e) in
           low-odd j mask d (getD xs r 0) (getD xs (r + j) 0) c h o ∙ ap₂ (bitAt xs) (sym (up j (d .pos) r c e o)) s
 
-  from-high : (r l : ℕ) → r / j % 2 ≡ 1 → l + j ≡ r → From j xs r (highRow j mask (getD xs l 0) (getD xs r 0))
+  from-high : (r l : ℕ) → r / j % 2 ≡ 1 → l + j ≡ r → From j xs r (highWord j mask (getD xs l 0) (getD xs r 0))
   from-high r l e q c h = go (even-or-odd (c / j))
     where
-      go : (c / j % 2 ≡ 0) ⊎ (c / j % 2 ≡ 1) → bit (highRow j mask (getD xs l 0) (getD xs r 0)) c ≡ bitAt xs (beside j r c) (beside j c r)
+      go : (c / j % 2 ≡ 0) ⊎ (c / j % 2 ≡ 1) → bit (highWord j mask (getD xs l 0) (getD xs r 0)) c ≡ bitAt xs (beside j r c) (beside j c r)
       go (inl z) =
           let s : l ≡ beside j r c = omega (arith, down j (d .pos) r c e z) in
           high-even j mask d (getD xs l 0) (getD xs r 0) c h z ∙ ap₂ (bitAt xs) s (sym (up j (d .pos) c r z e))
@@ -89,24 +89,24 @@ module _ (j mask : ℕ) (d : Distance j mask) (xs : List ℕ) where
     at-high = p .left (l + j) bound (omega (arith, high-pair j (d .pos) k))
 
     a : ℕ
-    a = lowRow j mask (getD ys l 0) (getD ys (l + j) 0)
+    a = lowWord j mask (getD ys l 0) (getD ys (l + j) 0)
 
     b : ℕ
-    b = highRow j mask (getD ys l 0) (getD ys (l + j) 0)
+    b = highWord j mask (getD ys l 0) (getD ys (l + j) 0)
 
     other : (r : ℕ) → (pairOf j r ≡ k → ⊥) → getD (swapped j mask l ys) r 0 ≡ getD ys r 0
     unfolding l a b
     other r n =
         stored-other ys l (l + j) a b r (λ e. n (ap (pairOf j) e ∙ low-pair j (d .pos) k)) (λ e. n (ap (pairOf j) e ∙ high-pair j (d .pos) k))
 
-    new-low : getD (swapped j mask l ys) l 0 ≡ lowRow j mask (getD xs l 0) (getD xs (l + j) 0)
+    new-low : getD (swapped j mask l ys) l 0 ≡ lowWord j mask (getD xs l 0) (getD xs (l + j) 0)
     unfolding a b
     new-low =
-        stored-first ys l (l + j) a b (λ e. absurd (omega (arith, d .pos))) (omega (arith, bound, p .long)) ∙ ap₂ (lowRow j mask) at-low at-high
+        stored-first ys l (l + j) a b (λ e. absurd (omega (arith, d .pos))) (omega (arith, bound, p .long)) ∙ ap₂ (lowWord j mask) at-low at-high
 
-    new-high : getD (swapped j mask l ys) (l + j) 0 ≡ highRow j mask (getD xs l 0) (getD xs (l + j) 0)
+    new-high : getD (swapped j mask l ys) (l + j) 0 ≡ highWord j mask (getD xs l 0) (getD xs (l + j) 0)
     unfolding a b
-    new-high = stored-last ys l (l + j) a b (omega (arith, bound, p .long)) ∙ ap₂ (highRow j mask) at-low at-high
+    new-high = stored-last ys l (l + j) a b (omega (arith, bound, p .long)) ∙ ap₂ (highWord j mask) at-low at-high
 
     here : (r : ℕ) → pairOf j r ≡ k → From j xs r (getD (swapped j mask l ys) r 0)
     unfolding l
@@ -116,11 +116,11 @@ module _ (j mask : ℕ) (d : Distance j mask) (xs : List ℕ) where
         go (inl z) =
             let q : r ≡ l = pair-low j (d .pos) k r e z in
             ap (λ (t : ℕ). bit (getD (swapped j mask l ys) t 0) c) q ∙ ap (λ (n : ℕ). bit n c) new-low
-            ∙ ap (λ (t : ℕ). bit (lowRow j mask (getD xs t 0) (getD xs (t + j) 0)) c) (sym q) ∙ from-low r z c u
+            ∙ ap (λ (t : ℕ). bit (lowWord j mask (getD xs t 0) (getD xs (t + j) 0)) c) (sym q) ∙ from-low r z c u
         go (inr o) =
             let q : r ≡ l + j = pair-high j (d .pos) k r e o in
             ap (λ (t : ℕ). bit (getD (swapped j mask l ys) t 0) c) q ∙ ap (λ (n : ℕ). bit n c) new-high
-            ∙ ap (λ (t : ℕ). bit (highRow j mask (getD xs l 0) (getD xs t 0)) c) (sym q) ∙ from-high r l o (sym q) c u
+            ∙ ap (λ (t : ℕ). bit (highWord j mask (getD xs l 0) (getD xs t 0)) c) (sym q) ∙ from-high r l o (sym q) c u
 
     part-more : Part j (k + 1) xs (swapped j mask (lowOf j k) ys)
     unfolding l
@@ -137,13 +137,13 @@ module _ (j mask : ℕ) (d : Distance j mask) (xs : List ℕ) where
             let ne : pairOf j r ≡ k → ⊥ = eqb-false _ _ e in
             λ c w. ap (λ (x : ℕ). bit x c) (other r ne) ∙ p .done r u (lt-of-le-ne (omega arith) ne) c w
 
-  -- n rows more, from the first row of a block
-  part-some : (k : ℕ) (ys : List ℕ) → k / j * j ≡ k → k + j ≤ 32 → Part j k xs ys → (n : ℕ) → n ≤ j → Part j (k + n) xs (swappedRows j mask (2 * k) n ys)
-  unfolding swappedRows
+  -- n words more, from the first word of a block
+  part-some : (k : ℕ) (ys : List ℕ) → k / j * j ≡ k → k + j ≤ 32 → Part j k xs ys → (n : ℕ) → n ≤ j → Part j (k + n) xs (swappedWords j mask (2 * k) n ys)
+  unfolding swappedWords
   part-some k ys q h p zero l = rw add-zero p
   part-some k ys q h p (suc n) l =
       let e : k + suc n ≡ k + n + 1 = omega arith in
-      rw (e, ← low-at j (d .pos) k n q) (part-more (k + n) (omega arith) (swappedRows j mask (2 * k) n ys) (part-some k ys q h p n (omega arith)))
+      rw (e, ← low-at j (d .pos) k n q) (part-more (k + n) (omega arith) (swappedWords j mask (2 * k) n ys) (part-some k ys q h p n (omega arith)))
 
   pub blocks-none : ((r : ℕ) → getD xs r 0 < 2 ^ 64) → length xs ≡ 64 → Blocks j 0 xs xs
   blocks-none w h = record { low = omega arith; whole = ap (λ (t : ℕ). t * j) (zero-div j) ∙ zero-mul j; part = part-none j xs h; words = w }
@@ -152,7 +152,7 @@ module _ (j mask : ℕ) (d : Distance j mask) (xs : List ℕ) where
   blocks-fit k ys h s = block-le j (d .pos) (d .blocks) k h (s .whole)
 
   -- a turn of the loop: ys at its head, zs at its end
-  pub blocks-turn : (k : ℕ) (ys zs : List ℕ) → k < 32 → Blocks j k xs ys → zs ≡ swappedRows j mask (2 * k) j ys → ((r : ℕ) → getD zs r 0 < 2 ^ 64)
+  pub blocks-turn : (k : ℕ) (ys zs : List ℕ) → k < 32 → Blocks j k xs ys → zs ≡ swappedWords j mask (2 * k) j ys → ((r : ℕ) → getD zs r 0 < 2 ^ 64)
       → Blocks j (k + j) xs zs
   blocks-turn k ys zs h s e w =
       record {
@@ -166,8 +166,8 @@ module _ (j mask : ℕ) (d : Distance j mask) (xs : List ℕ) where
   blocks-all k ys h s =
       record { words = s .words; bits = λ r c u v. s .part .done r u (omega (arith, pair-lt j (d .pos) (d .blocks) r u)) c v }
 
--- one row more: ys at a turn's head, zs at its end
-pub rows-more : (j mask first t : ℕ) (xs ys zs : List ℕ) → ys ≡ swappedRows j mask first t xs → zs ≡ swapped j mask (first + t) ys
-    → zs ≡ swappedRows j mask first (t + 1) xs
-unfolding swappedRows
-rows-more j mask first t xs ys zs p e = rw (e, p, add-one)
+-- one word more: ys at a turn's head, zs at its end
+pub words-more : (j mask first t : ℕ) (xs ys zs : List ℕ) → ys ≡ swappedWords j mask first t xs → zs ≡ swapped j mask (first + t) ys
+    → zs ≡ swappedWords j mask first (t + 1) xs
+unfolding swappedWords
+words-more j mask first t xs ys zs p e = rw (e, p, add-one)

@@ -1,4 +1,4 @@
--- Rows and columns by blocks of j: which block of two, and which pair of rows. Assumes nothing.
+-- Words and columns by blocks of j: which block of two, and which pair of words. Assumes nothing.
 use Prim.Native.Nat.{ℕ, zero, suc, _+_, _*_, _/_, _%_, _≤_, _<_}
 use native.Mathlib.Nat.{mod-lt, suc-mul, mul-comm, mul-assoc, div-add-mod', div-eq-of-lt, div-lt-iff-lt-mul, add-div-left, add-div-right, mul-le-mul-right}
 use native.Mathlib.Numerals.{add-one}
@@ -9,11 +9,11 @@ use lib.Arith.{digits-lt, digits-div, digits-mod}
 use Rattle.lists.proofs.Tests.{le-or-lt}
 use Rattle.transpose.specs.Stage.{beside}
 
--- the number of the pair that row r is in
+-- the number of the pair that word r is in
 abbrev pub pairOf : ℕ → ℕ → ℕ
 pairOf j r = r / j / 2 * j + r % j
 
--- the first row of pair k
+-- the first word of pair k
 abbrev pub lowOf : ℕ → ℕ → ℕ
 lowOf j k = k / j * 2 * j + k % j
 
@@ -73,7 +73,7 @@ module _ (j : ℕ) (p : 0 < j) where
       let q : k / j * 2 / 2 ≡ k / j = omega arith in
       ap₂ (λ (a b : ℕ). a / 2 * j + b) (low-div k) (low-mod k) ∙ ap (λ (t : ℕ). t * j + k % j) q ∙ div-add-mod' k j
 
-  -- the first row of a pair, and the second
+  -- the first word of a pair, and the second
   pub pair-low : (k r : ℕ) → pairOf j r ≡ k → r / j % 2 ≡ 0 → r ≡ lowOf j k
   pair-low k r e z = sym (div-add-mod' r j) ∙ ap₂ (λ (a b : ℕ). a * j + b) d (sym (digits-mod (r / j / 2) (mod-lt r p)) ∙ ap (λ (t : ℕ). t % j) e)
     where
@@ -99,7 +99,7 @@ module _ (j : ℕ) (p : 0 < j) where
       ap (pairOf j) s ∙ ap₂ (λ (a b : ℕ). a / 2 * j + b) (digits-div (k / j * 2 + 1) (mod-lt k p)) (digits-mod (k / j * 2 + 1) (mod-lt k p))
       ∙ ap (λ (t : ℕ). t * j + k % j) q ∙ div-add-mod' k j
 
-  -- the first row of pair k + n, where k pairs are whole blocks
+  -- the first word of pair k + n, where k pairs are whole blocks
   pub low-at : (k n : ℕ) → k / j * j ≡ k → n < j → lowOf j (k + n) ≡ 2 * k + n
   low-at k n q l =
       ap₂ (λ (a b : ℕ). a * 2 * j + b) (ap (λ (t : ℕ). (t + n) / j) (sym q) ∙ digits-div (k / j) l) (ap (λ (t : ℕ). (t + n) % j) (sym q) ∙ digits-mod (k / j) l)

@@ -3,9 +3,9 @@ ghost use mathlib.Core.Path.{_≡_};
 ghost use Prim.Native.Nat.{_+_, _*_, _≤_, _<_};
 ghost use lib.ListN.{length};
 ghost use Rattle.transpose.specs.Turn.{turnedIn};
-ghost use Rattle.transpose.specs.Stage.{Distance, Exchanged, swapped, swappedRows};
+ghost use Rattle.transpose.specs.Stage.{Distance, Exchanged, swapped, swappedWords};
 
-// The rows low and low + j change places in the columns that the stage exchanges.
+// The words low and low + j change places in the columns that the stage exchanges.
 fn swap(block: &mut [u64], low: usize, j: usize, mask: u64)
     requires { ⌜ (length (now block) ≡ 64) × (low + j < 64) ⌝ }
     ensures { λ _. ⌜ now (block .exit) ≡ swapped j mask low (now (block .entry)) ⌝ }
@@ -17,10 +17,10 @@ fn swap(block: &mut [u64], low: usize, j: usize, mask: u64)
     block[low + j] = b ^ crossing;
 }
 
-// The j rows from first on, each with the row j after it.
-fn rows(block: &mut [u64], first: usize, j: usize, mask: u64)
+// The j words from first on, each with the word j after it.
+fn words(block: &mut [u64], first: usize, j: usize, mask: u64)
     requires { ⌜ (length (now block) ≡ 64) × (first + 2 * j ≤ 64) ⌝ }
-    ensures { λ _. ⌜ now (block .exit) ≡ swappedRows j mask first j (now (block .entry)) ⌝ }
+    ensures { λ _. ⌜ now (block .exit) ≡ swappedWords j mask first j (now (block .entry)) ⌝ }
 {
     let mut t = 0;
     while t < j {
@@ -29,14 +29,14 @@ fn rows(block: &mut [u64], first: usize, j: usize, mask: u64)
     }
 }
 
-// Every pair of rows at the distance j; k is the number of pairs before.
+// Every pair of words at the distance j; k is the number of pairs before.
 fn stage(block: &mut [u64], j: usize, mask: u64)
     requires { ⌜ (length (now block) ≡ 64) × Distance j mask ⌝ }
     ensures { λ _. ⌜ Exchanged j (now (block .entry)) (now (block .exit)) ⌝ }
 {
     let mut k = 0;
     while k < 32 {
-        rows(block, 2 * k, j, mask);
+        words(block, 2 * k, j, mask);
         k += j;
     }
 }

@@ -12,21 +12,6 @@ use borrow.Author.Needs.{needs}
 use Rattle.answer.proofs.answer.Statement.{statement}
 use Rattle.answer.proofs.answer.Tie as tie
 
-slice-aggregate-read : tie.Need-slice-aggregate-read
-slice-aggregate-read c = search needs
-
-read-requires : tie.Need-read-requires
-read-requires c κs = search needs
-
-slice-aggregate-text : tie.Need-slice-aggregate-text
-slice-aggregate-text c = search needs
-
-text-requires : tie.Need-text-requires
-text-requires c κs = search needs
-
-same-length : tie.Need-same-length
-same-length c = search needs
-
 returns : tie.Need-returns
 returns c =
     let bad = c .before .before .before .before .before in
@@ -40,12 +25,6 @@ array-share-prefix-vectors c = let i = c .before .before .before in omega (arith
 
 slice-aggregate-print-chosen : tie.Need-slice-aggregate-print-chosen
 slice-aggregate-print-chosen c = sym (length-take-le _ _ (array-share-prefix-vectors (c .before)))
-
-print-chosen-requires : tie.Need-print-chosen-requires
-print-chosen-requires c κs = search needs
-
-same-length-2 : tie.Need-same-length-2
-same-length-2 c = search needs
 
 returns-2 : tie.Need-returns-2
 returns-2 c =
@@ -62,14 +41,14 @@ pub answer-spec : {M : Type 1} → statement M
 answer-spec =
     tie.close
     (tie.spec
-    slice-aggregate-read
-    read-requires
-    slice-aggregate-text
-    text-requires
-    same-length
+    (λ c. search needs)
+    (λ c κs. search needs)
+    (λ c. search needs)
+    (λ c κs. search needs)
+    (λ c. search needs)
     returns
     array-share-prefix-vectors
     slice-aggregate-print-chosen
-    print-chosen-requires
-    same-length-2
+    (λ c κs. search needs)
+    (λ c. search needs)
     returns-2)

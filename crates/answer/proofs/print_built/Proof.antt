@@ -6,22 +6,10 @@ use borrow.Author.Needs.{needs}
 use Rattle.answer.proofs.print_built.Statement.{statement}
 use Rattle.answer.proofs.print_built.Tie as tie
 
-print-requires : tie.Need-print-requires
-print-requires c κs = search needs
-
-same-length : tie.Need-same-length
-same-length c = search needs
-
 returns : tie.Need-returns
 returns c =
     let s = c .before .before .before .before .before .before .before .before .before .before in
     c .before .before .print .ensures ∙ built-accepted (s .args .built) (lent (s .args .h .now) (s .args .g .now) (s .args .aux .now)) (s .args .out .now) (search needs)
-
-refused-requires : tie.Need-refused-requires
-refused-requires c κs = search needs
-
-same-length-2 : tie.Need-same-length-2
-same-length-2 c = search needs
 
 returns-2 : tie.Need-returns-2
 returns-2 c =
@@ -31,4 +19,10 @@ returns-2 c =
 pub print-built-spec : {M : Type 1} → statement M
 print-built-spec =
     tie.close
-    (tie.spec print-requires same-length returns refused-requires same-length-2 returns-2)
+    (tie.spec
+    (λ c κs. search needs)
+    (λ c. search needs)
+    returns
+    (λ c κs. search needs)
+    (λ c. search needs)
+    returns-2)

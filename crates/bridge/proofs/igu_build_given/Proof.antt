@@ -13,32 +13,11 @@ use Rattle.bridge.proofs.igu_build_given.Tie as tie
 abbrev given : tie.Start → List ℕ
 given s = s .args .variables .now
 
-all-counted-requires : tie.Need-all-counted-requires
-all-counted-requires c κs = search needs
-
-slice-aggregate-variables : tie.Need-slice-aggregate-variables
-slice-aggregate-variables c = search needs
-
 variables-requires : tie.Need-variables-requires
 variables-requires c κs = (search needs, counted-all-range (given (c .before .before .before .before .before .before .before)) _ (c .before .all-counted .ensures))
 
-build-given-requires : tie.Need-build-given-requires
-build-given-requires c κs = search needs
-
-words-requires : tie.Need-words-requires
-words-requires c κs = search needs
-
 answer-requires : tie.Need-answer-requires
 answer-requires c κs = place-fits _ _ _ _ _ (c .before .before .before .before .before .before .before .before .build-given .ensures) (given-place _ _ _ _ _ _ _ (search needs))
-
-same-length : tie.Need-same-length
-same-length c = search needs
-
-same-length-2 : tie.Need-same-length-2
-same-length-2 c = search needs
-
-same-length-3 : tie.Need-same-length-3
-same-length-3 c = search needs
 
 returns : tie.Need-returns
 returns c = left-is _ _ _ _ _ (c .before .before .before .before .before .before .before .before .before .build-given .ensures) _ _ (c .before .words .ensures) (c .answer .ensures) ∙ given-left _ _ _ _ _ _ _ _ (counted-all-variables (given (c .before .before .before .before .before .before .before .before .before .before .before .before .before .before .before .before .before .before .before .before .before)) _ (c .before .before .before .before .before .before .before .before .before .before .before .before .before .before .before .all-counted .ensures) _ (c .before .before .before .before .before .before .before .before .before .before .before .before .before .variables .ensures))
@@ -47,13 +26,13 @@ pub igu-build-given-spec : {M : Type 1} → statement M
 igu-build-given-spec =
     tie.close
     (tie.spec
-    all-counted-requires
-    slice-aggregate-variables
+    (λ c κs. search needs)
+    (λ c. search needs)
     variables-requires
-    build-given-requires
-    words-requires
+    (λ c κs. search needs)
+    (λ c κs. search needs)
     answer-requires
-    same-length
-    same-length-2
-    same-length-3
+    (λ c. search needs)
+    (λ c. search needs)
+    (λ c. search needs)
     returns)

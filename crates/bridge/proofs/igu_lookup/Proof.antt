@@ -8,9 +8,6 @@ use borrow.Author.Needs.{needs}
 use Rattle.bridge.proofs.igu_lookup.Statement.{statement}
 use Rattle.bridge.proofs.igu_lookup.Tie as tie
 
-readable-requires : tie.Need-readable-requires
-readable-requires c κs = search needs
-
 returns : tie.Need-returns
 returns c = found-unread _ _ _ (sym (c .before .readable .ensures) ∙ not-true _ (c .if1 .taken))
 
@@ -18,23 +15,8 @@ returns c = found-unread _ _ _ (sym (c .before .readable .ensures) ∙ not-true 
 read : (c : tie.Else1) → allInRange (variableWords (c .before .before .before .before .before .args .words .now)) ≡ true
 read c = sym (c .before .readable .ensures) ∙ not-false _ (c .if1 .left)
 
-sub-variables : tie.Need-sub-variables
-sub-variables c = search needs
-
-part-variables-start : tie.Need-part-variables-start
-part-variables-start c = search needs
-
-part-variables-end : tie.Need-part-variables-end
-part-variables-end c = search needs
-
 variables-requires : tie.Need-variables-requires
 variables-requires c κs = (search needs, read (c .before .before))
-
-unit-requires : tie.Need-unit-requires
-unit-requires c κs = search needs
-
-lookup-requires : tie.Need-lookup-requires
-lookup-requires c κs = search needs
 
 answer-requires : tie.Need-answer-requires
 answer-requires c κs = index-fits _ _ _ _ (c .lookup .ensures)
@@ -46,13 +28,13 @@ pub igu-lookup-spec : {M : Type 1} → statement M
 igu-lookup-spec =
     tie.close
     (tie.spec
-    readable-requires
+    (λ c κs. search needs)
     returns
-    sub-variables
-    part-variables-start
-    part-variables-end
+    (λ c. search needs)
+    (λ c. search needs)
+    (λ c. search needs)
     variables-requires
-    unit-requires
-    lookup-requires
+    (λ c κs. search needs)
+    (λ c κs. search needs)
     answer-requires
     returns-2)

@@ -10,9 +10,6 @@ use borrow.Author.Needs.{needs}
 use Rattle.bridge.proofs.igu_recover.Statement.{statement}
 use Rattle.bridge.proofs.igu_recover.Tie as tie
 
-readable-requires : tie.Need-readable-requires
-readable-requires c κs = search needs
-
 returns : tie.Need-returns
 returns c =
     let e = recovered-unread _ _ _ (sym (c .before .before .readable .ensures) ∙ not-true _ (c .before .if1 .taken)) in
@@ -22,26 +19,8 @@ returns c =
 read : (c : tie.Else1) → allInRange (variableWords (c .before .before .before .before .before .args .words .now)) ≡ true
 read c = sym (c .before .readable .ensures) ∙ not-false _ (c .if1 .left)
 
-sub-variables : tie.Need-sub-variables
-sub-variables c = search needs
-
-part-variables-start : tie.Need-part-variables-start
-part-variables-start c = search needs
-
-part-variables-end : tie.Need-part-variables-end
-part-variables-end c = search needs
-
 variables-requires : tie.Need-variables-requires
 variables-requires c κs = (search needs, read (c .before .before))
-
-unit-requires : tie.Need-unit-requires
-unit-requires c κs = search needs
-
-recover-requires : tie.Need-recover-requires
-recover-requires c κs = search needs
-
-cast-result : tie.Need-cast-result
-cast-result c = search needs
 
 returns-2 : tie.Need-returns-2
 returns-2 c =
@@ -52,13 +31,13 @@ pub igu-recover-spec : {M : Type 1} → statement M
 igu-recover-spec =
     tie.close
     (tie.spec
-    readable-requires
+    (λ c κs. search needs)
     returns
-    sub-variables
-    part-variables-start
-    part-variables-end
+    (λ c. search needs)
+    (λ c. search needs)
+    (λ c. search needs)
     variables-requires
-    unit-requires
-    recover-requires
-    cast-result
+    (λ c κs. search needs)
+    (λ c κs. search needs)
+    (λ c. search needs)
     returns-2)

@@ -40,7 +40,7 @@ module _ (most n degree : ℕ) (vs : List ℕ) where
             let l = choice-least most cs vs (candidates-some n degree some) i h in
             rw (← l .is) (candidate-sound n degree _ (getD-in cs (l .at) (One 0) (l .below)))
 
-    -- "Each step lowers the number of pairs, so repetition and dependence never arise."
+    -- SCOPE 4.6: the pairs left fall with every step, so no variable is an XOR of those before
     pub choose-independent : All (λ v. v < 2 ^ n) vs → repeated vs ≡ 0 → firstDependent (choose most n degree vs) ≡ 0
     unfolding choose
     choose-independent low differ = rw (take-length ks) at (upto (length ks) (omega arith))

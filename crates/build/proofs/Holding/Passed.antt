@@ -39,7 +39,7 @@ pass-both ps qs h = go (ladder ps .number) refl (rw (ladder-append ps qs) at h)
 
 -- ---- the bounds of the variables
 
--- "the first n1 = p - floor(p/2) are row variables": with at most 24 variables neither side is above 12
+-- SCOPE 5.1: with at most 24 variables neither side is above 12
 pub share-sides : (p : ℕ) → p ≤ maxVariables → (rowsShare p ≤ p) × (rowsShare p ≤ maxSide) × (p - rowsShare p ≤ maxSide)
 share-sides p h = (omega arith, omega arith, omega arith)
 
@@ -51,7 +51,7 @@ pub record Passed (n n1 : ℕ) (second : Refusal) (ks : List Kind) (cells : ℕ)
   pub apart : repeated (map (numberOf ks) vs) ≡ 0
   pub rows-fit : 2 ^ n1 ≤ length (t .h)
 
--- "Exactly n - p are kept."
+-- SCOPE 6.2: as many inputs are kept as the variables leave over
 pub split-kept : (n n1 : ℕ) (ks : List Kind) → Split n n1 ks → ones (kept n ks) + length ks ≡ n
 split-kept n n1 ks s = kept-number n ks (all-edges n ks (s .right)) (s .independent)
 

@@ -37,15 +37,6 @@ list c = list-passed _ _ _ _ _ _ (passed c)
 chosen : (c : tie.After-choose) → let s = c .before .before .before .before .before .before .before .before .before in ChosenIs (s .args .vectors .now) (s .args .n) (s .args .degree) (c .choose .result)
 chosen c = let l = list (c .before) in chosen-is _ _ _ _ (l .some-inputs) (l .listed .inputs) (l .listed .few) (c .choose .ensures)
 
-outside-requires : tie.Need-outside-requires
-outside-requires c κs = search needs
-
-check-list-requires : tie.Need-check-list-requires
-check-list-requires c κs = search needs
-
-refused-requires : tie.Need-refused-requires
-refused-requires c κs = search needs
-
 returns : tie.Need-returns
 returns c =
     let s = c .before .before .before .before .before .before .before .before .before in
@@ -56,21 +47,12 @@ returns c =
 cast-choose : tie.Need-cast-choose
 cast-choose c = omega (arith, list c .listed .inputs)
 
-choose-requires : tie.Need-choose-requires
-choose-requires c κs = search needs
-
-refused-requires-2 : tie.Need-refused-requires-2
-refused-requires-2 c κs = search needs
-
 returns-2 : tie.Need-returns-2
 returns-2 c =
     let s = c .before .before .before .before .before .before .before .before .before .before .before .before in
     let d = c .before .before .before in
     ap (λ (b : Built). after b (s .args .h .now) (s .args .g .now) (s .args .aux .now)) (c .refused2 .ensures)
     ∙ chosen-apart (s .args .n) (s .args .degree) (s .args .cells) (s .args .vectors .now) (table s) (passed (d .before)) (sym (chosen d .apart) ∙ not-true _ (c .before .if2 .taken))
-
-sub-n1 : tie.Need-sub-n1
-sub-n1 c = search needs
 
 complete-requires : tie.Need-complete-requires
 complete-requires c κs =
@@ -80,15 +62,6 @@ complete-requires c κs =
     let l = list e in
     let v = chosen-split (s .args .n) (s .args .degree) _ (s .args .cells) (s .args .vectors .now) _ _ (passed e) in
     ((l .cells-fit, l .few-cells, l .words-fit, d .within), (l .listed, rw (d .kinds, d .many) v))
-
-same-length : tie.Need-same-length
-same-length c = search needs
-
-same-length-2 : tie.Need-same-length-2
-same-length-2 c = search needs
-
-same-length-3 : tie.Need-same-length-3
-same-length-3 c = search needs
 
 returns-3 : tie.Need-returns-3
 returns-3 c =
@@ -102,17 +75,17 @@ pub build-chosen-spec : {M : Type 1} → statement M
 build-chosen-spec =
     tie.close
     (tie.spec
-    outside-requires
-    check-list-requires
-    refused-requires
+    (λ c κs. search needs)
+    (λ c κs. search needs)
+    (λ c κs. search needs)
     returns
     cast-choose
-    choose-requires
-    refused-requires-2
+    (λ c κs. search needs)
+    (λ c κs. search needs)
     returns-2
-    sub-n1
+    (λ c. search needs)
     complete-requires
-    same-length
-    same-length-2
-    same-length-3
+    (λ c. search needs)
+    (λ c. search needs)
+    (λ c. search needs)
     returns-3)

@@ -41,15 +41,6 @@ few c = let s = c .before .before .before .before .before .before .before .befor
 right : (c : tie.Else2) → let s = c .before .before .before .before .before .before .before .before .before .before .before in ladder (givenChecks (s .args .n) (kindsOf (take (s .args .p) (s .args .variables))) (s .args .vectors .now)) .number ≡ 0
 right c = sym (ap (λ (r : Refusal). r .number) (c .before .before .check-given .ensures)) ∙ c .if2 .left
 
-too-many-requires : tie.Need-too-many-requires
-too-many-requires c κs = search needs
-
-check-list-requires : tie.Need-check-list-requires
-check-list-requires c κs = search needs
-
-refused-requires : tie.Need-refused-requires
-refused-requires c κs = search needs
-
 returns : tie.Need-returns
 returns c =
     let s = c .before .before .before .before .before .before .before .before .before in
@@ -59,9 +50,6 @@ returns c =
 
 check-given-requires : tie.Need-check-given-requires
 check-given-requires c κs = let l = list c in (l .listed .inputs, few c, l .listed .few)
-
-refused-requires-2 : tie.Need-refused-requires-2
-refused-requires-2 c κs = search needs
 
 returns-2 : tie.Need-returns-2
 returns-2 c =
@@ -77,15 +65,6 @@ complete-requires c κs =
     let l = list e in
     ((l .cells-fit, l .few-cells, l .words-fit, few e), (l .listed, given-split (s .args .n) (s .args .variables) (s .args .p) (s .args .n1) (s .args .cells) (s .args .vectors .now) _ _ (s .good .1 .0 .1 .0 .1) (passed e) (right (c .before .before .before))))
 
-same-length : tie.Need-same-length
-same-length c = search needs
-
-same-length-2 : tie.Need-same-length-2
-same-length-2 c = search needs
-
-same-length-3 : tie.Need-same-length-3
-same-length-3 c = search needs
-
 returns-3 : tie.Need-returns-3
 returns-3 c =
     let s = c .before .before .before .before .before .before .before .before .before .before .before .before .before .before .before .before .before .before .before .before .before in
@@ -95,15 +74,15 @@ pub build-given-spec : {M : Type 1} → statement M
 build-given-spec =
     tie.close
     (tie.spec
-    too-many-requires
-    check-list-requires
-    refused-requires
+    (λ c κs. search needs)
+    (λ c κs. search needs)
+    (λ c κs. search needs)
     returns
     check-given-requires
-    refused-requires-2
+    (λ c κs. search needs)
     returns-2
     complete-requires
-    same-length
-    same-length-2
-    same-length-3
+    (λ c. search needs)
+    (λ c. search needs)
+    (λ c. search needs)
     returns-3)

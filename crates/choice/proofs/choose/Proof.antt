@@ -8,12 +8,6 @@ use Rattle.choice.proofs.Choosing.Places.{past-inputs, past-vectors, wi
 use Rattle.choice.proofs.choose.Statement.{statement}
 use Rattle.choice.proofs.choose.Tie as tie
 
-outside-requires : tie.Need-outside-requires
-outside-requires c κs = tt
-
-blank-variables-requires : tie.Need-blank-variables-requires
-blank-variables-requires c κs = tt
-
 returns : tie.Need-returns
 returns c =
     rw (c .«blank-variables» .ensures)
@@ -34,4 +28,9 @@ returns-2 c = let (some, inputs, few) = inside (c .before) in c .choose .ensures
 pub choose-spec : {M : Type 1} → statement M
 choose-spec =
     tie.close
-    (tie.spec outside-requires blank-variables-requires returns choose-requires returns-2)
+    (tie.spec
+    (λ c κs. tt)
+    (λ c κs. tt)
+    returns
+    choose-requires
+    returns-2)

@@ -2,10 +2,12 @@
 use Prim.Native.Nat.{ℕ, zero, suc, _+_, _-_, _*_, _^_, _≤_, _<_}
 use mathlib.Core.Path.{_≡_}
 use mathlib.Core.List.{List}
+use mathlib.Core.Bool.{true, false}
 use lib.Bits.{bitXor}
 use lib.Count.{ones}
 use lib.ListN.{length, getD}
 use Rattle.vectors.specs.declared.Kind.{Kind}
+use Rattle.choice.specs.declared.judge.Large.{Large}
 use Rattle.choice.specs.Inner.Layout.{maxBlocks, block, inputColumn}
 use Rattle.choice.specs.Inner.Gain.{wholeGain, mostOf, pairGain, Counts}
 use Rattle.vectors.specs.Bounds.{maxInputs}
@@ -77,6 +79,11 @@ Sheets columns ends rests most n = (i j : ℕ) → i < j → j ≤ n → Sheet c
 -- the less a candidate leaves, the more it tells apart
 abbrev pub leftBy : List ℕ → List ℕ → ℕ → Kind → ℕ
 leftBy columns ends blocks k = maxGain - gainAt columns ends blocks (earlier k) (later k)
+
+-- what the large groups give, or that with the pairs of the small ones they do not come above beat
+pub record WholeIs (exact pairs beat : ℕ) (r : Large) : Type 0 where
+  pub is : r .hopeless ≡ false → r .gain ≡ exact
+  pub low : r .hopeless ≡ true → exact + pairs ≤ beat
 
 -- above beat a judgement is exact, and up to beat it says that no more is right
 pub record Judges (exact beat r : ℕ) : Type 0 where

@@ -1,4 +1,4 @@
--- The search, row by row: input i with each later one, input 0 being none.
+-- The search, line by line: input i with each later one, input 0 being none.
 use Prim.Native.Nat.{ℕ, zero, suc, _+_, _-_, _*_, _≤_, _<_}
 use mathlib.Core.Path.{_≡_}
 use mathlib.Core.Bool.{cond}
@@ -13,23 +13,23 @@ abbrev pub betterOf : (ℕ → ℕ → ℕ) → Best → ℕ → ℕ → Best
 betterOf g b i j = cond (ltb (b .gain) (g i j)) (record { i = i; j = j; gain = g i j }) b
 
 -- input i with d inputs from j on
-unfoldable pub bestRow : (ℕ → ℕ → ℕ) → Best → ℕ → ℕ → ℕ → Best
-bestRow g b i zero j = b
-bestRow g b i (suc d) j = bestRow g (betterOf g b i j) i d (suc j)
+unfoldable pub bestLine : (ℕ → ℕ → ℕ) → Best → ℕ → ℕ → ℕ → Best
+bestLine g b i zero j = b
+bestLine g b i (suc d) j = bestLine g (betterOf g b i j) i d (suc j)
 
--- d rows from that of input i on, of n inputs
-unfoldable pub bestRows : (ℕ → ℕ → ℕ) → ℕ → Best → ℕ → ℕ → Best
-unfolding bestRow
-bestRows g n b i zero = b
-bestRows g n b i (suc d) = bestRows g n (bestRow g b i (n - i) (suc i)) (suc i) d
+-- d lines from that of input i on, of n inputs
+unfoldable pub bestLines : (ℕ → ℕ → ℕ) → ℕ → Best → ℕ → ℕ → Best
+unfolding bestLine
+bestLines g n b i zero = b
+bestLines g n b i (suc d) = bestLines g n (bestLine g b i (n - i) (suc i)) (suc i) d
 
 -- before any candidate: the first, as if it told nothing apart
 abbrev pub noneBest : Best
 noneBest = record { i = 0; j = 1; gain = 0 }
 
 -- the pairs of inputs are degree 2's
-abbrev pub rowsOf : ℕ → ℕ → ℕ
-rowsOf n degree = cond (eqb degree 2) n 1
+abbrev pub linesOf : ℕ → ℕ → ℕ
+linesOf n degree = cond (eqb degree 2) n 1
 
 -- the order of the candidates
 abbrev pub rank : ℕ → ℕ → ℕ
@@ -43,7 +43,7 @@ Above g n b place = (i j : ℕ) → i < j → j ≤ n → rank i j < place → g
 abbrev pub Beaten : ℕ → (ℕ → ℕ → ℕ) → ℕ → Type 0
 Beaten tied g n = (i j : ℕ) → i < j → j ≤ n → (input tied i ≡ 1) ⊎ (input tied j ≡ 1) → (x : ℕ) × (y : ℕ) × (x < y) × (y ≤ n) × (rank x y < rank i j) × (g i j ≤ g x y)
 
--- the best after the row of input i
-pub record RowIs (g : ℕ → ℕ → ℕ) (n i : ℕ) (best r : Best) : Type 0 where
-  pub is : r ≡ bestRow g best i (n - i) (i + 1)
+-- the best after the line of input i
+pub record LineIs (g : ℕ → ℕ → ℕ) (n i : ℕ) (best r : Best) : Type 0 where
+  pub is : r ≡ bestLine g best i (n - i) (i + 1)
   pub high : Above g n r (rank i (n + 1))

@@ -17,12 +17,6 @@ empty (b ∷ bs) e = absurd (omega arith)
 returns : tie.Need-returns
 returns c = empty (c .before .args .text .now) (c .if1 .taken)
 
-sub-last : tie.Need-sub-last
-sub-last c = search needs
-
-shared-slice-read-if2 : tie.Need-shared-slice-read-if2
-shared-slice-read-if2 c = search needs
-
 returns-2 : tie.Need-returns-2
 returns-2 c =
     let text = c .before .before .before .args .text .now in
@@ -36,4 +30,9 @@ returns-3 c =
     rw (ne-eqb _ 10 other)
 
 pub body-length-spec : {M : Type 1} → statement M
-body-length-spec = tie.close (tie.spec returns sub-last shared-slice-read-if2 returns-2 returns-3)
+body-length-spec = tie.close (tie.spec
+    returns
+    (λ c. search needs)
+    (λ c. search needs)
+    returns-2
+    returns-3)

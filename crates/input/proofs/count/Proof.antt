@@ -27,9 +27,6 @@ turn c =
 loop-holds : tie.Need-loop-holds Inv-loop μ-loop
 loop-holds c = (c .before .pre, counting-none _)
 
-number-at-requires : tie.Need-number-at-requires Inv-loop μ-loop
-number-at-requires c κs = search needs
-
 returns : tie.Need-returns Inv-loop μ-loop
 returns c =
     let b = c .before .before in
@@ -58,7 +55,7 @@ count-spec =
     Inv-loop
     μ-loop
     loop-holds
-    number-at-requires
+    (λ c κs. search needs)
     returns
     add-found
     add-at

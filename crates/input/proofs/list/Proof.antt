@@ -17,18 +17,6 @@ abbrev μ-loop : tie.MeasureT-loop
 loop-holds : tie.Need-loop-holds Inv-loop μ-loop
 loop-holds c = let s = c .before .before in (s .pre .0, listing-none _ _ _ (s .pre .1) (s .pre .2))
 
-number-at-requires : tie.Need-number-at-requires Inv-loop μ-loop
-number-at-requires c κs = search needs
-
-mul-vectors : tie.Need-mul-vectors Inv-loop μ-loop
-mul-vectors c = search needs
-
-slice-write-vectors : tie.Need-slice-write-vectors Inv-loop μ-loop
-slice-write-vectors c = search needs
-
-add-i : tie.Need-add-i Inv-loop μ-loop
-add-i c = search needs
-
 add-at : tie.Need-add-at Inv-loop μ-loop
 add-at c =
     let l = c .before .before .before in
@@ -55,10 +43,10 @@ list-spec =
     Inv-loop
     μ-loop
     loop-holds
-    number-at-requires
-    mul-vectors
-    slice-write-vectors
-    add-i
+    (λ c κs. search needs)
+    (λ c. search needs)
+    (λ c. search needs)
+    (λ c. search needs)
     add-at
     loop-less
     loop-again

@@ -34,20 +34,11 @@ third c =
     let s = start (b .before .before) in
     next _ _ (c .number-at3 .result) (c .number-at3 .ensures) (second b .good) (omega (arith, second b .size, first (b .before .before) .size, first-size s, s .pre .2))
 
-number-at-requires : tie.Need-number-at-requires
-number-at-requires c κs = search needs
-
 add-number-at : tie.Need-add-number-at
 add-number-at c = omega (arith, first (c .before) .low, start (c .before) .pre .0)
 
-number-at-requires-2 : tie.Need-number-at-requires-2
-number-at-requires-2 c κs = search needs
-
 add-number-at-2 : tie.Need-add-number-at-2
 add-number-at-2 c = omega (arith, second (c .before) .low, start (c .before .before .before) .pre .0)
-
-number-at-requires-3 : tie.Need-number-at-requires-3
-number-at-requires-3 c κs = search needs
 
 add-list : tie.Need-add-list
 add-list c = omega (arith, third (c .before) .low, start (c .before .before .before .before .before) .pre .0)
@@ -57,9 +48,6 @@ list-requires c κs =
     let b = c .before .before in
     let s = start (b .before .before .before .before) in
     (s .pre .0, third b .good, omega (arith, s .pre .2, first-size s, first (b .before .before .before .before) .size, second (b .before .before) .size, third b .size))
-
-same-length : tie.Need-same-length
-same-length c = search needs
 
 returns : tie.Need-returns
 returns c =
@@ -74,12 +62,12 @@ pub numbers-spec : {M : Type 1} → statement M
 numbers-spec =
     tie.close
     (tie.spec
-    number-at-requires
+    (λ c κs. search needs)
     add-number-at
-    number-at-requires-2
+    (λ c κs. search needs)
     add-number-at-2
-    number-at-requires-3
+    (λ c κs. search needs)
     add-list
     list-requires
-    same-length
+    (λ c. search needs)
     returns)

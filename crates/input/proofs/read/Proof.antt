@@ -33,9 +33,6 @@ count-is c = c .count .ensures ∙ ap (λ (m : ℕ). countOf (fields (take m (st
 returns : tie.Need-returns
 returns c = let s = c .before .before .before in read-bad (s .args .text .now) (s .args .vectors .now) _ (bad-long _ _ (c .if1 .taken)) refl
 
-body-length-requires : tie.Need-body-length-requires
-body-length-requires c κs = search needs
-
 slice-aggregate-count : tie.Need-slice-aggregate-count
 slice-aggregate-count c = sym (length-take-le _ _ (size-low (c .before)))
 
@@ -79,9 +76,6 @@ numbers-requires c κs =
     let k = counted _ _ (b .count .ensures) (omega (arith, e .before .before .if2 .left)) in
     (body-short (b .before .before), k .0, omega (arith, k .1, e .before .before .if2 .left))
 
-same-length : tie.Need-same-length
-same-length c = search needs
-
 returns-5 : tie.Need-returns-5
 returns-5 c =
     let e = c .before .before .before .before .before in
@@ -100,7 +94,7 @@ read-spec =
     tie.close
     (tie.spec
     returns
-    body-length-requires
+    (λ c κs. search needs)
     slice-aggregate-count
     count-requires
     returns-2
@@ -110,5 +104,5 @@ read-spec =
     slice-relend-prefix-numbers
     slice-aggregate-numbers-2
     numbers-requires
-    same-length
+    (λ c. search needs)
     returns-5)

@@ -69,12 +69,6 @@ cell-is c =
     let s = c .before .before .before .before .before in
     ap₂ (λ (r q : ℕ). getD (s .args .h .now) r 0 + q) (row-is (c .before)) (column-is s)
 
-low-requires : tie.Need-low-requires
-low-requires c κs = search needs
-
-shr-column : tie.Need-shr-column
-shr-column c = search needs
-
 mul-cell : tie.Need-mul-cell
 mul-cell c = omega (arith, row-held c, c .before .before .before .before .good .1 .0)
 
@@ -87,20 +81,8 @@ cast-cell c = omega (arith, displaced c)
 add-cell : tie.Need-add-cell
 add-cell c = omega (arith, displaced c, column-low (c .before .before .before .before .before))
 
-with-index-requires : tie.Need-with-index-requires
-with-index-requires c κs = search needs
-
 returns : tie.Need-returns
 returns c = c .with-index .ensures ∙ answer-out _ _ _ _ (cell-is (c .before .before .before)) (c .before .if1 .taken)
-
-mul-index : tie.Need-mul-index
-mul-index c = search needs
-
-shared-slice-read-index : tie.Need-shared-slice-read-index
-shared-slice-read-index c = search needs
-
-index-requires : tie.Need-index-requires
-index-requires c κs = tt
 
 compared-requires : tie.Need-compared-requires
 compared-requires c κs =
@@ -119,16 +101,16 @@ pub answer-spec : {M : Type 1} → statement M
 answer-spec =
     tie.close
     (tie.spec
-    low-requires
-    shr-column
+    (λ c κs. search needs)
+    (λ c. search needs)
     mul-cell
     shared-slice-read-cell
     cast-cell
     add-cell
-    with-index-requires
+    (λ c κs. search needs)
     returns
-    mul-index
-    shared-slice-read-index
-    index-requires
+    (λ c. search needs)
+    (λ c. search needs)
+    (λ c κs. tt)
     compared-requires
     returns-2)

@@ -15,29 +15,11 @@ other c d =
     let a = c .before .before .before .before .args in
     compared-other (a .unit) (a .aux .now) (a .x) (a .i) (c .before .before .if1 .left) (c .if2 .left) d
 
-with-index-requires : tie.Need-with-index-requires
-with-index-requires c κs = search needs
-
 returns : tie.Need-returns
 returns c = c .with-index .ensures ∙ compared-none _ _ _ _ (c .before .if1 .taken)
 
-with-refusal-requires : tie.Need-with-refusal-requires
-with-refusal-requires c κs = search needs
-
 returns-2 : tie.Need-returns-2
 returns-2 c = c .with-refusal .ensures ∙ compared-above _ _ _ _ (c .before .if2 .taken)
-
-mul-held : tie.Need-mul-held
-mul-held c = search needs
-
-shared-slice-read-held : tie.Need-shared-slice-read-held
-shared-slice-read-held c = search needs
-
-low-requires : tie.Need-low-requires
-low-requires c κs = search needs
-
-with-index-requires-2 : tie.Need-with-index-requires-2
-with-index-requires-2 c κs = search needs
 
 returns-3 : tie.Need-returns-3
 returns-3 c =
@@ -47,15 +29,6 @@ returns-3 c =
     c .with-index2 .ensures
     ∙ other e (λ q. c .before .if3 .taken (c .before .before .low .ensures ∙ word-row (a .unit) (a .x) (a .row) (s .pre .0 .0) (s .pre .0 .1) (s .pre .1 .1 .0) (s .pre .1 .1 .1) _ q))
 
-shr-held-rest : tie.Need-shr-held-rest
-shr-held-rest c = search needs
-
-pack-requires : tie.Need-pack-requires
-pack-requires c κs = search needs
-
-with-index-requires-3 : tie.Need-with-index-requires-3
-with-index-requires-3 c κs = search needs
-
 returns-4 : tie.Need-returns-4
 returns-4 c =
     let e = c .before .before .before .before .before .before in
@@ -63,9 +36,6 @@ returns-4 c =
     let a = s .args in
     c .with-index3 .ensures
     ∙ other e (λ q. c .before .if4 .taken (word-rest (a .unit) (a .x) (a .row) (s .pre .0 .0) (s .pre .0 .1) (s .pre .1 .1 .0) (s .pre .1 .1 .1) _ q ∙ sym (c .before .before .pack .ensures)))
-
-with-index-requires-4 : tie.Need-with-index-requires-4
-with-index-requires-4 c κs = search needs
 
 returns-5 : tie.Need-returns-5
 returns-5 c =
@@ -82,18 +52,18 @@ pub compared-spec : {M : Type 1} → statement M
 compared-spec =
     tie.close
     (tie.spec
-    with-index-requires
+    (λ c κs. search needs)
     returns
-    with-refusal-requires
+    (λ c κs. search needs)
     returns-2
-    mul-held
-    shared-slice-read-held
-    low-requires
-    with-index-requires-2
+    (λ c. search needs)
+    (λ c. search needs)
+    (λ c κs. search needs)
+    (λ c κs. search needs)
     returns-3
-    shr-held-rest
-    pack-requires
-    with-index-requires-3
+    (λ c. search needs)
+    (λ c κs. search needs)
+    (λ c κs. search needs)
     returns-4
-    with-index-requires-4
+    (λ c κs. search needs)
     returns-5)

@@ -35,12 +35,6 @@ formed c =
 facts : (c : tie.Else2) → let s = start (c .before .before .before .before) in WellFormed (s .args .unit) (tables s)
 facts c = let s = start (c .before .before .before .before) in well-formed-facts (s .args .unit) (tables s) (formed c)
 
-framed-requires : tie.Need-framed-requires
-framed-requires c κs = search needs
-
-with-refusal-requires : tie.Need-with-refusal-requires
-with-refusal-requires c κs = search needs
-
 returns : tie.Need-returns
 returns c = c .with-refusal .ensures ∙ lookup-unformed _ _ _ (formed-not _ _ (sym (c .before .before .framed .ensures) ∙ not-true _ (c .before .if1 .taken)))
 
@@ -50,9 +44,6 @@ cast-take-values c = omega (arith, bounds (c .before .before) .inputs)
 take-values-requires : tie.Need-take-values-requires
 take-values-requires c κs = let b = bounds (c .before .before) in (b .inputs, b .few)
 
-with-refusal-requires-2 : tie.Need-with-refusal-requires-2
-with-refusal-requires-2 c κs = search needs
-
 returns-2 : tie.Need-returns-2
 returns-2 c =
     let v = c .before .before in
@@ -60,12 +51,6 @@ returns-2 c =
     let s = start e in
     c .with-refusal2 .ensures
     ∙ lookup-unformed _ _ _ (sym (formed-right (s .args .unit) (tables s) false (framed e) (sym (not-true _ (sym (v .take-values .ensures .fault) ∙ c .before .if2 .taken)))))
-
-beyond-requires : tie.Need-beyond-requires
-beyond-requires c κs = search needs
-
-with-refusal-requires-3 : tie.Need-with-refusal-requires-3
-with-refusal-requires-3 c κs = search needs
 
 returns-3 : tie.Need-returns-3
 returns-3 c =
@@ -84,15 +69,15 @@ pub lookup-spec : {M : Type 1} → statement M
 lookup-spec =
     tie.close
     (tie.spec
-    framed-requires
-    with-refusal-requires
+    (λ c κs. search needs)
+    (λ c κs. search needs)
     returns
     cast-take-values
     take-values-requires
-    with-refusal-requires-2
+    (λ c κs. search needs)
     returns-2
-    beyond-requires
-    with-refusal-requires-3
+    (λ c κs. search needs)
+    (λ c κs. search needs)
     returns-3
     answer-requires
     returns-4)

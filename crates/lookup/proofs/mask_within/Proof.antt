@@ -11,14 +11,8 @@ use Rattle.vectors.proofs.Variables.Faults.{right-one, right-two}
 use Rattle.lookup.proofs.mask_within.Statement.{statement}
 use Rattle.lookup.proofs.mask_within.Tie as tie
 
-enum-known-kind : tie.Need-enum-known-kind
-enum-known-kind c = search needs
-
 place-within-requires : tie.Need-place-within-requires
 place-within-requires c κs = right-one maxInputs _ (rw (c .before .kind .given .1) at (c .before .before .before .pre))
-
-enum-known-kind-2 : tie.Need-enum-known-kind-2
-enum-known-kind-2 c = search needs
 
 place-within-requires-2 : tie.Need-place-within-requires-2
 place-within-requires-2 c κs = right-two maxInputs _ _ (rw (c .before .kind2 .given .1) at (c .before .before .before .pre)) .0
@@ -39,9 +33,9 @@ pub mask-within-spec : {M : Type 1} → statement M
 mask-within-spec =
     tie.close
     (tie.spec
-    enum-known-kind
+    (λ c. search needs)
     place-within-requires
-    enum-known-kind-2
+    (λ c. search needs)
     place-within-requires-2
     place-within-requires-3
     returns

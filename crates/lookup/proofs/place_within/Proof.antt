@@ -10,19 +10,14 @@ use Rattle.vectors.specs.Bounds.{maxInputs}
 use Rattle.lookup.proofs.place_within.Statement.{statement}
 use Rattle.lookup.proofs.place_within.Tie as tie
 
-sub-result : tie.Need-sub-result
-sub-result c = search needs
-
-cast-result : tie.Need-cast-result
-cast-result c = search needs
-
-shl-result : tie.Need-shl-result
-shl-result c = search needs
-
 returns : tie.Need-returns
 returns c =
     let i = c .args .i in
     shl-exact {a = 1} 1 (i - 1) maxInputs (omega arith) (omega arith) ∙ one-mul (2 ^ (i - 1)) ∙ sym (place-in maxInputs i (omega arith) (omega arith))
 
 pub place-within-spec : {M : Type 1} → statement M
-place-within-spec = tie.close (tie.spec sub-result cast-result shl-result returns)
+place-within-spec = tie.close (tie.spec
+    (λ c. search needs)
+    (λ c. search needs)
+    (λ c. search needs)
+    returns)

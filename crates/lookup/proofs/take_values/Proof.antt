@@ -37,18 +37,6 @@ loop-holds c =
       right-none (c .args .n) (c .args .t2) (c .args .p) (omega (arith, e)),
     )
 
-sub-i : tie.Need-sub-i Inv-loop μ-loop
-sub-i c = search needs
-
-mul-v : tie.Need-mul-v Inv-loop μ-loop
-mul-v c = search needs
-
-array-copy-out-v : tie.Need-array-copy-out-v Inv-loop μ-loop
-array-copy-out-v c = search needs
-
-faulty-requires : tie.Need-faulty-requires Inv-loop μ-loop
-faulty-requires c κs = tt
-
 returns : tie.Need-returns Inv-loop μ-loop
 returns c =
     let l = c .before .before .before .before in
@@ -67,14 +55,8 @@ mask-within-requires c κs =
     let s = l .before in
     faulty-within (s .args .n) maxInputs (getD (s .args .t2) (l .loop .i - 1) _ .kind) (s .pre .0) (sym (c .before .faulty .ensures) ∙ c .if1 .left)
 
-value-requires : tie.Need-value-requires Inv-loop μ-loop
-value-requires c κs = tt
-
 add-number : tie.Need-add-number Inv-loop μ-loop
 add-number c = omega (arith, low (c .before .before .before .before .before .before), c .value .ensures)
-
-loop-less : tie.Need-loop-less Inv-loop μ-loop
-loop-less c = search needs
 
 loop-again : tie.Need-loop-again Inv-loop μ-loop
 loop-again c =
@@ -105,15 +87,15 @@ take-values-spec =
     Inv-loop
     μ-loop
     loop-holds
-    sub-i
-    mul-v
-    array-copy-out-v
-    faulty-requires
+    (λ c. search needs)
+    (λ c. search needs)
+    (λ c. search needs)
+    (λ c κs. tt)
     returns
     mul-number
     mask-within-requires
-    value-requires
+    (λ c κs. tt)
     add-number
-    loop-less
+    (λ c. search needs)
     loop-again
     returns-2)

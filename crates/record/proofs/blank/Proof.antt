@@ -3,11 +3,10 @@ use borrow.Author.Needs.{needs}
 use Rattle.record.proofs.blank.Statement.{statement}
 use Rattle.record.proofs.blank.Tie as tie
 
-blank-variables-requires : tie.Need-blank-variables-requires
-blank-variables-requires c κs = search needs
-
 returns : tie.Need-returns
 returns c = rw (c .blank-variables .ensures)
 
 pub blank-spec : {M : Type 1} → statement M
-blank-spec = tie.close (tie.spec blank-variables-requires returns)
+blank-spec = tie.close (tie.spec
+    (λ c κs. search needs)
+    returns)

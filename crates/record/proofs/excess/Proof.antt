@@ -14,15 +14,6 @@ use Rattle.record.proofs.excess.Tie as tie
 low : (c : tie.After-log2-up) → c .log2-up .result < 2 ^ 63
 low c = omega (arith, c .log2-up .ensures, log2-le (c .before .args .k + 1), c .before .fits .k .fits)
 
-add-log2-up : tie.Need-add-log2-up
-add-log2-up c = search needs
-
-log2-up-requires : tie.Need-log2-up-requires
-log2-up-requires c κs = search needs
-
-cast-result : tie.Need-cast-result
-cast-result c = search needs
-
 cast-result-2 : tie.Need-cast-result-2
 cast-result-2 c = record { sfits = low c }
 
@@ -37,4 +28,10 @@ returns c =
 
 pub excess-spec : {M : Type 1} → statement M
 excess-spec =
-    tie.close (tie.spec add-log2-up log2-up-requires cast-result cast-result-2 sub-result returns)
+    tie.close (tie.spec
+    (λ c. search needs)
+    (λ c κs. search needs)
+    (λ c. search needs)
+    cast-result-2
+    sub-result
+    returns)

@@ -11,9 +11,6 @@ use Rattle.record.proofs.framed.Tie as tie
 bounds : (c : tie.Else1) → inBounds (c .before .before .before .before .before .args .unit) ≡ true
 bounds c = sym (c .before .in-bounds .ensures) ∙ not-false _ (c .if1 .left)
 
-in-bounds-requires : tie.Need-in-bounds-requires
-in-bounds-requires c κs = search needs
-
 returns : tie.Need-returns
 unfolding framedBy
 returns c = rw (sym (c .before .in-bounds .ensures) ∙ not-true _ (c .if1 .taken))
@@ -38,7 +35,7 @@ pub framed-spec : {M : Type 1} → statement M
 framed-spec =
     tie.close
     (tie.spec
-    in-bounds-requires
+    (λ c κs. search needs)
     returns
     right-kept-requires
     returns-2

@@ -17,29 +17,17 @@ two c = sym (c .before .outside2 .ensures) ∙ c .if2 .left
 three : (c : tie.Else3) → outside 1 maxCells (c .before .before .before .before .before .before .args .unit .cells) ≡ false
 three c = sym (c .before .outside3 .ensures) ∙ c .if3 .left
 
-outside-requires : tie.Need-outside-requires
-outside-requires c κs = search needs
-
 returns : tie.Need-returns
 returns c = rw (sym (c .before .outside .ensures) ∙ c .if1 .taken)
 
-outside-requires-2 : tie.Need-outside-requires-2
-outside-requires-2 c κs = search needs
-
 returns-2 : tie.Need-returns-2
 returns-2 c = rw (one (c .before .before), sym (c .before .outside2 .ensures) ∙ c .if2 .taken)
-
-outside-requires-3 : tie.Need-outside-requires-3
-outside-requires-3 c κs = search needs
 
 returns-3 : tie.Need-returns-3
 returns-3 c = rw (one (c .before .before .before .before), two (c .before .before), sym (c .before .outside3 .ensures) ∙ c .if3 .taken)
 
 returns-4 : tie.Need-returns-4
 returns-4 c = let e = c .before .before in rw (one (e .before .before .before .before), two (e .before .before), three e, lt-leb _ _ (c .if4 .taken))
-
-too-many-requires : tie.Need-too-many-requires
-too-many-requires c κs = search needs
 
 returns-5 : tie.Need-returns-5
 returns-5 c =
@@ -50,12 +38,12 @@ pub in-bounds-spec : {M : Type 1} → statement M
 in-bounds-spec =
     tie.close
     (tie.spec
-    outside-requires
+    (λ c κs. search needs)
     returns
-    outside-requires-2
+    (λ c κs. search needs)
     returns-2
-    outside-requires-3
+    (λ c κs. search needs)
     returns-3
     returns-4
-    too-many-requires
+    (λ c κs. search needs)
     returns-5)

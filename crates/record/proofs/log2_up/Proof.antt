@@ -30,15 +30,6 @@ room q m h g = ⊎-elim (λ l. absurd (omega (arith, pow-mono {i = maxInputs - 1
 loop-holds : tie.Need-loop-holds Inv-loop μ-loop
 loop-holds c = (omega arith, λ p h. absurd (omega arith))
 
-shl-loop : tie.Need-shl-loop Inv-loop μ-loop
-shl-loop c = search needs
-
-add-q : tie.Need-add-q Inv-loop μ-loop
-add-q c = search needs
-
-loop-less : tie.Need-loop-less Inv-loop μ-loop
-loop-less c = search needs
-
 loop-again : tie.Need-loop-again Inv-loop μ-loop
 loop-again c =
     let l = c .before in
@@ -52,4 +43,12 @@ returns c =
 
 pub log2-up-spec : {M : Type 1} → statement M
 log2-up-spec =
-    tie.close (tie.spec Inv-loop μ-loop loop-holds shl-loop add-q loop-less loop-again returns)
+    tie.close (tie.spec
+    Inv-loop
+    μ-loop
+    loop-holds
+    (λ c. search needs)
+    (λ c. search needs)
+    (λ c. search needs)
+    loop-again
+    returns)

@@ -21,9 +21,6 @@ few c = omega (arith, rows c)
 many : (c : tie.Start) → 1 * 2 ^ c .args .unit .n1 % 2 ^ maxInputs ≤ length (c .args .h .now) → 2 ^ c .args .unit .n1 ≤ length (c .args .h .now)
 many c = omega (arith, rows c)
 
-shl-if1 : tie.Need-shl-if1
-shl-if1 c = search needs
-
 returns : tie.Need-returns
 returns c = rw (lt-leb _ _ (few (c .before .before) (c .if1 .taken)))
 
@@ -34,4 +31,8 @@ returns-3 : tie.Need-returns-3
 returns-3 c = rw (le-leb _ _ (many (c .before .before .before .before .before) (c .before .before .before .if1 .left)), le-leb _ _ (c .before .if2 .left))
 
 pub long-enough-spec : {M : Type 1} → statement M
-long-enough-spec = tie.close (tie.spec shl-if1 returns returns-2 returns-3)
+long-enough-spec = tie.close (tie.spec
+    (λ c. search needs)
+    returns
+    returns-2
+    returns-3)

@@ -19,37 +19,10 @@ Inv-loop p n1 variables m₀ last i₀ m i =
 abbrev μ-loop : tie.MeasureT-loop
 μ-loop p n1 variables m₀ last i₀ m i = last - i
 
-blank-variables-requires : tie.Need-blank-variables-requires Inv-loop μ-loop
-blank-variables-requires c κs = tt
-
-least-requires : tie.Need-least-requires Inv-loop μ-loop
-least-requires c κs = tt
-
 loop-holds : tie.Need-loop-holds Inv-loop μ-loop
 loop-holds c =
     let e = c .before .blank-variables .ensures in
     (omega arith, c .before .before .good .0 .1 .0 .1, ap length e, e ∙ marks-none (c .before .before .args .n1), c .least .ensures)
-
-mul-v : tie.Need-mul-v Inv-loop μ-loop
-mul-v c = search needs
-
-array-copy-out-v : tie.Need-array-copy-out-v Inv-loop μ-loop
-array-copy-out-v c = search needs
-
-part-at-requires : tie.Need-part-at-requires Inv-loop μ-loop
-part-at-requires c κs = tt
-
-mul-m : tie.Need-mul-m Inv-loop μ-loop
-mul-m c = search needs
-
-array-set-from-m : tie.Need-array-set-from-m Inv-loop μ-loop
-array-set-from-m c = search needs
-
-add-i : tie.Need-add-i Inv-loop μ-loop
-add-i c = search needs
-
-loop-less : tie.Need-loop-less Inv-loop μ-loop
-loop-less c = search needs
 
 loop-again : tie.Need-loop-again Inv-loop μ-loop
 loop-again c =
@@ -71,15 +44,15 @@ marked-spec =
     (tie.spec
     Inv-loop
     μ-loop
-    blank-variables-requires
-    least-requires
+    (λ c κs. tt)
+    (λ c κs. tt)
     loop-holds
-    mul-v
-    array-copy-out-v
-    part-at-requires
-    mul-m
-    array-set-from-m
-    add-i
-    loop-less
+    (λ c. search needs)
+    (λ c. search needs)
+    (λ c κs. tt)
+    (λ c. search needs)
+    (λ c. search needs)
+    (λ c. search needs)
+    (λ c. search needs)
     loop-again
     returns)

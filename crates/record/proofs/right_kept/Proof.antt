@@ -12,14 +12,8 @@ use Rattle.record.proofs.right_kept.Tie as tie
 cast-if1 : tie.Need-cast-if1
 cast-if1 c = omega (arith, ones-le maxInputs (c .before .args .unit .kept) (c .struct-known .given .1 .1 .1 .1 .1 .0 .fits))
 
-sub-if1 : tie.Need-sub-if1
-sub-if1 c = search needs
-
 returns : tie.Need-returns
 returns c = rw (ne-eqb _ _ (c .if1 .taken))
-
-beyond-requires : tie.Need-beyond-requires
-beyond-requires c κs = search needs
 
 returns-2 : tie.Need-returns-2
 returns-2 c =
@@ -27,4 +21,9 @@ returns-2 c =
     rw (eq-eqb _ _ (c .before .if1 .left), c .beyond .ensures) (not-leb (2 ^ u .n) (u .kept))
 
 pub right-kept-spec : {M : Type 1} → statement M
-right-kept-spec = tie.close (tie.spec cast-if1 sub-if1 returns beyond-requires returns-2)
+right-kept-spec = tie.close (tie.spec
+    cast-if1
+    (λ c. search needs)
+    returns
+    (λ c κs. search needs)
+    returns-2)

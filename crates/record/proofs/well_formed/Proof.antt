@@ -19,21 +19,20 @@ framed c = sym (c .before .framed .ensures) ∙ not-false _ (c .if1 .left)
 bounds : (c : tie.Else1) → InBounds (c .before .before .before .before .before .args .unit)
 bounds c = framed-bounds _ _ (framed c)
 
-framed-requires : tie.Need-framed-requires
-framed-requires c κs = search needs
-
 returns : tie.Need-returns
 returns c = sym (formed-not _ _ (sym (c .before .framed .ensures) ∙ not-true _ (c .if1 .taken)))
 
 cast-first-faulty : tie.Need-cast-first-faulty
 cast-first-faulty c = omega (arith, bounds (c .before .before) .inputs)
 
-first-faulty-requires : tie.Need-first-faulty-requires
-first-faulty-requires c κs = tt
-
 returns-2 : tie.Need-returns-2
 returns-2 c = formed-right _ _ _ (framed (c .before .before .before)) (ap (λ (i : ℕ). eqb i 0) (c .first-faulty .ensures))
 
 pub well-formed-spec : {M : Type 1} → statement M
 well-formed-spec =
-    tie.close (tie.spec framed-requires returns cast-first-faulty first-faulty-requires returns-2)
+    tie.close (tie.spec
+    (λ c κs. search needs)
+    returns
+    cast-first-faulty
+    (λ c κs. tt)
+    returns-2)

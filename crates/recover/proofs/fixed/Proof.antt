@@ -29,20 +29,8 @@ found c =
     ∙ ap₂ (λ n ks. foundBy n (u .n1) ks (u .kept) (a .word) (a .column)) (inputs-same (u .n) (s .pre .0 .inputs))
     (kinds-same (u .n) (u .p) (u .variables) (s .pre .0 .inputs) (s .pre .1 .right)))
 
-vector-requires : tie.Need-vector-requires
-vector-requires c κs = search needs
-
-enum-known-found : tie.Need-enum-known-found
-enum-known-found c = search needs
-
-with-vector-requires : tie.Need-with-vector-requires
-with-vector-requires c κs = search needs
-
 enum-told : tie.Need-enum-told
 enum-told c = search needs
-
-with-refusal-requires : tie.Need-with-refusal-requires
-with-refusal-requires c κs = search needs
 
 returns : tie.Need-returns
 returns c = c .with-vector .ensures ∙ ap answered (sym (c .before .before .found .given .1)) ∙ found (c .before .before .before .before)
@@ -54,10 +42,10 @@ pub fixed-spec : {M : Type 1} → statement M
 fixed-spec =
     tie.close
     (tie.spec
-    vector-requires
-    enum-known-found
-    with-vector-requires
+    (λ c κs. search needs)
+    (λ c. search needs)
+    (λ c κs. search needs)
     enum-told
-    with-refusal-requires
+    (λ c κs. search needs)
     returns
     returns-2)

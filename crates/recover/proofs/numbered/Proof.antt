@@ -53,17 +53,8 @@ slice-aggregate-first-cell c =
     let s = c .before .before .before .before .before in
     sym (length-take-le (s .args .unit .cells) (s .args .g .now) (facts s .cells-held))
 
-first-cell-requires : tie.Need-first-cell-requires
-first-cell-requires c κs = search needs
-
-with-refusal-requires : tie.Need-with-refusal-requires
-with-refusal-requires c κs = search needs
-
 returns : tie.Need-returns
 returns c = c .with-refusal .ensures ∙ from-none _ _ _ _ (sym (c .before .before .first-cell .ensures) ∙ c .before .if1 .taken)
-
-sub-cell : tie.Need-sub-cell
-sub-cell c = search needs
 
 low-requires : tie.Need-low-requires
 low-requires c κs = omega (arith, facts (c .before .before .before .before .before .before .before) .bounds .rows-few)
@@ -76,9 +67,6 @@ shared-slice-read-d c = row-held (c .before)
 
 cast-d : tie.Need-cast-d
 cast-d c = omega (arith, c .shared-slice-known5 .given (c .before .low .result))
-
-with-refusal-requires-2 : tie.Need-with-refusal-requires-2
-with-refusal-requires-2 c κs = search needs
 
 returns-2 : tie.Need-returns-2
 returns-2 c =
@@ -113,15 +101,15 @@ numbered-spec =
     mul-word
     shared-slice-read-word
     slice-aggregate-first-cell
-    first-cell-requires
-    with-refusal-requires
+    (λ c κs. search needs)
+    (λ c κs. search needs)
     returns
-    sub-cell
+    (λ c. search needs)
     low-requires
     mul-d
     shared-slice-read-d
     cast-d
-    with-refusal-requires-2
+    (λ c κs. search needs)
     returns-2
     fixed-requires
     returns-3)

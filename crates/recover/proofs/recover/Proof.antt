@@ -20,20 +20,8 @@ formed c = sym (c .before .well-formed .ensures) ∙ not-false _ (c .if1 .left)
 number-in : (c : tie.Else2) → let a = c .before .before .before .before .before .before .before .args in outside 1 (a .unit .k) (a .i) ≡ false
 number-in c = sym (c .before .outside .ensures) ∙ c .if2 .left
 
-well-formed-requires : tie.Need-well-formed-requires
-well-formed-requires c κs = search needs
-
-with-refusal-requires : tie.Need-with-refusal-requires
-with-refusal-requires c κs = search needs
-
 returns : tie.Need-returns
 returns c = c .with-refusal .ensures ∙ recover-unformed _ _ _ (sym (c .before .before .well-formed .ensures) ∙ not-true _ (c .before .if1 .taken))
-
-outside-requires : tie.Need-outside-requires
-outside-requires c κs = search needs
-
-with-refusal-requires-2 : tie.Need-with-refusal-requires-2
-with-refusal-requires-2 c κs = search needs
 
 returns-2 : tie.Need-returns-2
 returns-2 c =
@@ -54,11 +42,11 @@ pub recover-spec : {M : Type 1} → statement M
 recover-spec =
     tie.close
     (tie.spec
-    well-formed-requires
-    with-refusal-requires
+    (λ c κs. search needs)
+    (λ c κs. search needs)
     returns
-    outside-requires
-    with-refusal-requires-2
+    (λ c κs. search needs)
+    (λ c κs. search needs)
     returns-2
     numbered-requires
     returns-3)

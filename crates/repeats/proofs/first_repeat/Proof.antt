@@ -21,21 +21,6 @@ returns c = sym (too-many _ (c .if1 .taken))
 loop-holds : tie.Need-loop-holds Inv-loop μ-loop
 loop-holds c = chaining-none _
 
-mul-x : tie.Need-mul-x Inv-loop μ-loop
-mul-x c = search needs
-
-shared-slice-read-x : tie.Need-shared-slice-read-x Inv-loop μ-loop
-shared-slice-read-x c = search needs
-
-slot-requires : tie.Need-slot-requires Inv-loop μ-loop
-slot-requires c κs = search needs
-
-mul-from : tie.Need-mul-from Inv-loop μ-loop
-mul-from c = search needs
-
-array-read-from : tie.Need-array-read-from Inv-loop μ-loop
-array-read-from c = search needs
-
 slice-aggregate-seen : tie.Need-slice-aggregate-seen Inv-loop μ-loop
 slice-aggregate-seen c = let a = c .before .before .before .before in sym (chaining-front (a .before .if1 .left) (a .loop .inv))
 
@@ -51,34 +36,10 @@ seen-requires c κs =
     let l = a .loop .inv in
     (omega (arith, chaining-front f l, l .within), chaining-linked f l, chaining-latest f l _ _ (c .before .before .slot .ensures .0))
 
-add-result : tie.Need-add-result Inv-loop μ-loop
-add-result c = search needs
-
 returns-2 : tie.Need-returns-2 Inv-loop μ-loop
 returns-2 c =
     let a = c .before .before .before .before .before .before .before in
     chaining-here (a .before .if1 .left) (a .loop .inv) (omega arith) (rw (c .if2 .taken) at (c .before .seen .ensures))
-
-mul-next : tie.Need-mul-next Inv-loop μ-loop
-mul-next c = search needs
-
-array-write-next : tie.Need-array-write-next Inv-loop μ-loop
-array-write-next c = search needs
-
-add-i : tie.Need-add-i Inv-loop μ-loop
-add-i c = search needs
-
-cast-heads : tie.Need-cast-heads Inv-loop μ-loop
-cast-heads c = search needs
-
-mul-heads : tie.Need-mul-heads Inv-loop μ-loop
-mul-heads c = search needs
-
-array-write-heads : tie.Need-array-write-heads Inv-loop μ-loop
-array-write-heads c = search needs
-
-loop-less : tie.Need-loop-less Inv-loop μ-loop
-loop-less c = search needs
 
 loop-again : tie.Need-loop-again Inv-loop μ-loop
 loop-again c =
@@ -96,22 +57,22 @@ first-repeat-spec =
     μ-loop
     returns
     loop-holds
-    mul-x
-    shared-slice-read-x
-    slot-requires
-    mul-from
-    array-read-from
+    (λ c. search needs)
+    (λ c. search needs)
+    (λ c κs. search needs)
+    (λ c. search needs)
+    (λ c. search needs)
     slice-aggregate-seen
     cast-seen
     seen-requires
-    add-result
+    (λ c. search needs)
     returns-2
-    mul-next
-    array-write-next
-    add-i
-    cast-heads
-    mul-heads
-    array-write-heads
-    loop-less
+    (λ c. search needs)
+    (λ c. search needs)
+    (λ c. search needs)
+    (λ c. search needs)
+    (λ c. search needs)
+    (λ c. search needs)
+    (λ c. search needs)
     loop-again
     returns-3)

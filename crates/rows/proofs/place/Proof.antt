@@ -18,12 +18,6 @@ fit e = sym (e .before .unfit .ensures) ∙ e .if1 .left
 fits : (e : tie.Else1) → let a = e .before .before .before .before .before .before .args in Fits (a .aux .now) (length (a .h .now)) (length (a .g .now)) (a .owner)
 fits e = fits-are _ _ _ _ (fit e)
 
-unfit-requires : tie.Need-unfit-requires
-unfit-requires c κs = search needs
-
-same-length : tie.Need-same-length
-same-length c = search needs
-
 returns : tie.Need-returns
 returns c = (sym (placed-unfit _ _ _ _ (sym (c .before .unfit .ensures) ∙ c .if1 .taken)), refl)
 
@@ -52,18 +46,6 @@ place-rows-requires c κs =
       ),
     )
 
-unlink-requires : tie.Need-unlink-requires
-unlink-requires c κs = search needs
-
-same-length-2 : tie.Need-same-length-2
-same-length-2 c = search needs
-
-same-length-3 : tie.Need-same-length-3
-same-length-3 c = search needs
-
-same-length-4 : tie.Need-same-length-4
-same-length-4 c = search needs
-
 returns-2 : tie.Need-returns-2
 returns-2 c =
     let l = c .before .before .before .before .before .before .before .before .before .before .before .before .before .before .before .before .before .before .before .link in
@@ -77,14 +59,14 @@ pub place-spec : {M : Type 1} → statement M
 place-spec =
     tie.close
     (tie.spec
-    unfit-requires
-    same-length
+    (λ c κs. search needs)
+    (λ c. search needs)
     returns
     link-requires
     take-cells-requires
     place-rows-requires
-    unlink-requires
-    same-length-2
-    same-length-3
-    same-length-4
+    (λ c κs. search needs)
+    (λ c. search needs)
+    (λ c. search needs)
+    (λ c. search needs)
     returns-2)

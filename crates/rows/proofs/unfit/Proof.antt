@@ -28,9 +28,6 @@ returns-5 c =
     rw
     (ne-eqb _ _ (c .before .before .before .before .if1 .left), le-ltb _ _ (c .before .before .before .if2 .left), le-ltb _ _ (c .before .before .if3 .left), le-ltb _ _ (c .before .if4 .left), lt-ltb _ _ (c .if5 .taken))
 
-astray-requires : tie.Need-astray-requires
-astray-requires c κs = search needs
-
 returns-6 : tie.Need-returns-6
 unfolding spec.unfit
 returns-6 c =
@@ -41,4 +38,11 @@ returns-6 c =
 
 pub unfit-spec : {M : Type 1} → statement M
 unfit-spec =
-    tie.close (tie.spec returns returns-2 returns-3 returns-4 returns-5 astray-requires returns-6)
+    tie.close (tie.spec
+    returns
+    returns-2
+    returns-3
+    returns-4
+    returns-5
+    (λ c κs. search needs)
+    returns-6)

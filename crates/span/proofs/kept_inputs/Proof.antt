@@ -12,15 +12,6 @@ use Rattle.span.proofs.Fixed.{kept-read}
 use Rattle.span.proofs.kept_inputs.Statement.{statement}
 use Rattle.span.proofs.kept_inputs.Tie as tie
 
-by-variables-requires : tie.Need-by-variables-requires
-by-variables-requires c κs = search needs
-
-least-requires : tie.Need-least-requires
-least-requires c κs = search needs
-
-by-inputs-requires : tie.Need-by-inputs-requires
-by-inputs-requires c κs = search needs
-
 returns : tie.Need-returns
 returns c =
     let a = c .before .before .before .before .args in
@@ -29,4 +20,8 @@ returns c =
     (edges-within (inputsIn (a .n)) (kindsOf (take (a .p) (a .variables)))) (omega arith))
 
 pub kept-inputs-spec : {M : Type 1} → statement M
-kept-inputs-spec = tie.close (tie.spec by-variables-requires least-requires by-inputs-requires returns)
+kept-inputs-spec = tie.close (tie.spec
+    (λ c κs. search needs)
+    (λ c κs. search needs)
+    (λ c κs. search needs)
+    returns)

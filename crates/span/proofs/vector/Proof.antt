@@ -79,31 +79,16 @@ values c =
     ap (λ (m : ℕ). a .word % m + a .column * 2 ^ a .n1 % 2 ^ maxInputs) (rows e)
     ∙ values-sum maxInputs (length (ks s)) (a .n1) _ (a .column) (rows-in e) (omega (arith, many (e .before), e .before .least2 .ensures)) (column-in c)
 
-least-requires : tie.Need-least-requires
-least-requires c κs = search needs
-
-least-requires-2 : tie.Need-least-requires-2
-least-requires-2 c κs = search needs
-
 returns : tie.Need-returns
 returns c = found-few _ _ _ _ _ _ (omega (arith, many (c .before)))
-
-beyond-requires : tie.Need-beyond-requires
-beyond-requires c κs = search needs
 
 returns-2 : tie.Need-returns-2
 returns-2 c =
     found-wide _ _ _ _ _ _ (rows-in (c .before .before))
     (rw (many (c .before .before .before)) (leb-true _ _ (sym (c .before .beyond .ensures) ∙ c .if2 .taken)))
 
-shl-row : tie.Need-shl-row
-shl-row c = search needs
-
 rem-row : tie.Need-rem-row
 rem-row c = rw (rows (c .before .before)) (pow-pos _)
-
-shl-by-variables : tie.Need-shl-by-variables
-shl-by-variables c = search needs
 
 add-by-variables : tie.Need-add-by-variables
 add-by-variables c =
@@ -116,19 +101,10 @@ add-by-variables c =
           (pow-mono {i = length (ks s)} {j = maxInputs} (omega (arith, many (e .before), e .before .least2 .ensures))));
     }
 
-by-variables-requires : tie.Need-by-variables-requires
-by-variables-requires c κs = search needs
-
 returns-3 : tie.Need-returns-3
 returns-3 c =
     let d = c .before .before .before in
     found-tied _ _ _ _ _ _ (rows-in (d .before .before)) (column-in d) (λ e. c .if3 .taken (c .before .before .by-variables .ensures .0 ∙ e))
-
-shr-by-inputs : tie.Need-shr-by-inputs
-shr-by-inputs c = search needs
-
-by-inputs-requires : tie.Need-by-inputs-requires
-by-inputs-requires c κs = search needs
 
 returns-4 : tie.Need-returns-4
 returns-4 c =
@@ -137,18 +113,12 @@ returns-4 c =
     let d = f .before .before .before in
     found-other _ _ _ _ _ _ (rows-in (d .before .before)) (column-in d) (free f) (λ e. c .if4 .taken (kept-is i ∙ e))
 
-add-beyond : tie.Need-add-beyond
-add-beyond c = search needs
-
 sub-beyond : tie.Need-sub-beyond
 sub-beyond c =
     let f = c .before .before .before .before in
     let q = f .before .before .before .before .before .before in
     let s = q .before .before in
     omega (arith, few-independent (inputsIn (s .args .n)) (ks s) (edges s) (free f), many q, q .before .least .ensures)
-
-beyond-requires-2 : tie.Need-beyond-requires-2
-beyond-requires-2 c κs = search needs
 
 returns-5 : tie.Need-returns-5
 returns-5 c =
@@ -158,9 +128,6 @@ returns-5 c =
     let q = d .before .before .before in
     found-long _ _ _ _ _ _ (rows-in (d .before .before)) (column-in d) (free f) (mask-is m)
     (rw (many q, sym (q .before .least .ensures)) (leb-true _ _ (sym (c .before .beyond2 .ensures) ∙ c .if5 .taken)))
-
-read-off-requires : tie.Need-read-off-requires
-read-off-requires c κs = search needs
 
 returns-6 : tie.Need-returns-6
 returns-6 c =
@@ -178,23 +145,23 @@ pub vector-spec : {M : Type 1} → statement M
 vector-spec =
     tie.close
     (tie.spec
-    least-requires
-    least-requires-2
+    (λ c κs. search needs)
+    (λ c κs. search needs)
     returns
-    beyond-requires
+    (λ c κs. search needs)
     returns-2
-    shl-row
+    (λ c. search needs)
     rem-row
-    shl-by-variables
+    (λ c. search needs)
     add-by-variables
-    by-variables-requires
+    (λ c κs. search needs)
     returns-3
-    shr-by-inputs
-    by-inputs-requires
+    (λ c. search needs)
+    (λ c κs. search needs)
     returns-4
-    add-beyond
+    (λ c. search needs)
     sub-beyond
-    beyond-requires-2
+    (λ c κs. search needs)
     returns-5
-    read-off-requires
+    (λ c κs. search needs)
     returns-6)

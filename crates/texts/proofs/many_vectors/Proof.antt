@@ -17,38 +17,14 @@ abbrev μ-loop : tie.MeasureT-loop
 loop-holds : tie.Need-loop-holds Inv-loop μ-loop
 loop-holds c = (omega arith, refl)
 
-mul-text : tie.Need-mul-text Inv-loop μ-loop
-mul-text c = search needs
-
-array-write-text : tie.Need-array-write-text Inv-loop μ-loop
-array-write-text c = search needs
-
-add-i : tie.Need-add-i Inv-loop μ-loop
-add-i c = search needs
-
-loop-less : tie.Need-loop-less Inv-loop μ-loop
-loop-less c = search needs
-
 loop-again : tie.Need-loop-again Inv-loop μ-loop
 loop-again c = (omega arith, length-set (c .before .loop .text) (2 * c .before .loop .i) _ ∙ c .before .loop .inv .1)
-
-slice-aggregate-answer : tie.Need-slice-aggregate-answer Inv-loop μ-loop
-slice-aggregate-answer c = search needs
-
-answer-requires : tie.Need-answer-requires Inv-loop μ-loop
-answer-requires c κs = search needs
 
 array-share-prefix-text : tie.Need-array-share-prefix-text Inv-loop μ-loop
 array-share-prefix-text c = search needs
 
 slice-aggregate-answer-2 : tie.Need-slice-aggregate-answer-2 Inv-loop μ-loop
 slice-aggregate-answer-2 c = sym (length-take-le 2053 (c .before .before .before .before .loop .text) (array-share-prefix-text (c .before)))
-
-answer-requires-2 : tie.Need-answer-requires-2 Inv-loop μ-loop
-answer-requires-2 c κs = search needs
-
-returns : tie.Need-returns Inv-loop μ-loop
-returns c = search needs
 
 pub many-vectors-spec : {M : Type 1} → statement M
 many-vectors-spec =
@@ -57,14 +33,14 @@ many-vectors-spec =
     Inv-loop
     μ-loop
     loop-holds
-    mul-text
-    array-write-text
-    add-i
-    loop-less
+    (λ c. search needs)
+    (λ c. search needs)
+    (λ c. search needs)
+    (λ c. search needs)
     loop-again
-    slice-aggregate-answer
-    answer-requires
+    (λ c. search needs)
+    (λ c κs. search needs)
     array-share-prefix-text
     slice-aggregate-answer-2
-    answer-requires-2
-    returns)
+    (λ c κs. search needs)
+    (λ c. search needs))

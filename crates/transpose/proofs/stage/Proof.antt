@@ -1,4 +1,4 @@
--- `transpose::stage` meets its contract. The loop's invariant: the first k pairs of rows are exchanged. Assumes nothing.
+-- `transpose::stage` meets its contract. The loop's invariant: the first k pairs of words are exchanged. Assumes nothing.
 use borrow.Author.Needs.{needs}
 use Prim.Native.Nat.{_-_}
 use native.Mathlib.Omega.{arith}
@@ -16,11 +16,8 @@ abbrev μ-loop : tie.MeasureT-loop
 loop-holds : tie.Need-loop-holds Inv-loop μ-loop
 loop-holds c = let s = c .before in blocks-none _ _ (s .pre .1) (s .args .block .now) (λ r. c .slice-known .given r .fits) (s .pre .0)
 
-mul-rows : tie.Need-mul-rows Inv-loop μ-loop
-mul-rows c = search needs
-
-rows-requires : tie.Need-rows-requires Inv-loop μ-loop
-rows-requires c κs =
+words-requires : tie.Need-words-requires Inv-loop μ-loop
+words-requires c κs =
     let a = c .before .before in
     let s = a .before .before in
     (a .loop .inv .part .long, omega (arith, blocks-fit _ _ (s .pre .1) _ (a .loop .k) (a .loop .block) (omega arith) (a .loop .inv)))
@@ -38,7 +35,7 @@ loop-again : tie.Need-loop-again Inv-loop μ-loop
 loop-again c =
     let a = c .before .before .before .before .before in
     let s = a .before .before in
-    blocks-turn _ _ (s .pre .1) _ (a .loop .k) (a .loop .block) _ (omega arith) (a .loop .inv) (c .before .before .rows .ensures)
+    blocks-turn _ _ (s .pre .1) _ (a .loop .k) (a .loop .block) _ (omega arith) (a .loop .inv) (c .before .before .words .ensures)
     (λ r. c .slice-known2 .given r .fits)
 
 same-length : tie.Need-same-length Inv-loop μ-loop
@@ -54,8 +51,8 @@ stage-spec =
     Inv-loop
     μ-loop
     loop-holds
-    mul-rows
-    rows-requires
+    (λ c. search needs)
+    words-requires
     add-k
     loop-less
     loop-again

@@ -11,9 +11,6 @@ use Rattle.vectors.specs.Bounds.{maxInputs}
 use Rattle.vectors.proofs.beyond.Statement.{statement}
 use Rattle.vectors.proofs.beyond.Tie as tie
 
-shl-result : tie.Need-shl-result
-shl-result c = search needs
-
 returns : tie.Need-returns
 returns c =
     let a = c .before .args in
@@ -25,4 +22,7 @@ returns-2 c =
     sym (lt-leb (2 ^ a .n) (a .x) (lt-of-lt-of-le (c .before .fits .x .fits) (pow-mono {i = maxInputs} {j = a .n} (omega arith))))
 
 pub beyond-spec : {M : Type 1} → statement M
-beyond-spec = tie.close (tie.spec shl-result returns returns-2)
+beyond-spec = tie.close (tie.spec
+    (λ c. search needs)
+    returns
+    returns-2)

@@ -5,21 +5,6 @@ use Rattle.vectors.proofs.Variables.Faults.{fault-one, fault-past, faul
 use Rattle.vectors.proofs.faulty.Statement.{statement}
 use Rattle.vectors.proofs.faulty.Tie as tie
 
-enum-known-kind : tie.Need-enum-known-kind
-enum-known-kind c = search needs
-
-wrapping-sub-u8-requires : tie.Need-wrapping-sub-u8-requires
-wrapping-sub-u8-requires c κs = search needs
-
-enum-known-kind-2 : tie.Need-enum-known-kind-2
-enum-known-kind-2 c = search needs
-
-wrapping-sub-u8-requires-2 : tie.Need-wrapping-sub-u8-requires-2
-wrapping-sub-u8-requires-2 c κs = search needs
-
-wrapping-sub-u8-requires-3 : tie.Need-wrapping-sub-u8-requires-3
-wrapping-sub-u8-requires-3 c κs = search needs
-
 returns : tie.Need-returns
 returns c =
     let low = c .before .before .wrapping-sub-u82 in
@@ -43,11 +28,11 @@ pub faulty-spec : {M : Type 1} → statement M
 faulty-spec =
     tie.close
     (tie.spec
-    enum-known-kind
-    wrapping-sub-u8-requires
-    enum-known-kind-2
-    wrapping-sub-u8-requires-2
-    wrapping-sub-u8-requires-3
+    (λ c. search needs)
+    (λ c κs. search needs)
+    (λ c. search needs)
+    (λ c κs. search needs)
+    (λ c κs. search needs)
     returns
     returns-2
     returns-3)

@@ -33,31 +33,13 @@ fault c b e =
     ap (faulty (a .n)) (kinds-at (a .t2) (a .p) (l .loop .i) _ (One 0) (omega arith) (omega arith))
     ∙ sym (c .faulty .ensures) ∙ e
 
-least-requires : tie.Need-least-requires Inv-loop μ-loop
-least-requires c κs = tt
-
 loop-holds : tie.Need-loop-holds Inv-loop μ-loop
 loop-holds c = (omega arith, c .least .ensures, c .before .good .1 .0 .1 .0 .1, seek-start _ _)
-
-mul-v : tie.Need-mul-v Inv-loop μ-loop
-mul-v c = search needs
-
-array-copy-out-v : tie.Need-array-copy-out-v Inv-loop μ-loop
-array-copy-out-v c = search needs
-
-add-i : tie.Need-add-i Inv-loop μ-loop
-add-i c = search needs
-
-faulty-requires : tie.Need-faulty-requires Inv-loop μ-loop
-faulty-requires c κs = tt
 
 returns : tie.Need-returns Inv-loop μ-loop
 returns c =
     let l = c .before .before .before .before in
     seek-here _ _ (One 0) (l .loop .i) (omega (arith, size l)) (l .loop .inv .3) (fault (c .before) true (c .if1 .taken))
-
-loop-less : tie.Need-loop-less Inv-loop μ-loop
-loop-less c = search needs
 
 loop-again : tie.Need-loop-again Inv-loop μ-loop
 loop-again c =
@@ -73,13 +55,13 @@ first-faulty-spec =
     (tie.spec
     Inv-loop
     μ-loop
-    least-requires
+    (λ c κs. tt)
     loop-holds
-    mul-v
-    array-copy-out-v
-    add-i
-    faulty-requires
+    (λ c. search needs)
+    (λ c. search needs)
+    (λ c. search needs)
+    (λ c κs. tt)
     returns
-    loop-less
+    (λ c. search needs)
     loop-again
     returns-2)

@@ -9,9 +9,6 @@ use Rattle.vectors.specs.Bounds.{maxInputs}
 use Rattle.vectors.proofs.low.Statement.{statement}
 use Rattle.vectors.proofs.low.Tie as tie
 
-shl-result : tie.Need-shl-result
-shl-result c = search needs
-
 power : (n : ℕ) → n < maxInputs → 1 * 2 ^ n % 2 ^ maxInputs ≡ 2 ^ n
 power n h = shl-exact 1 n maxInputs (omega arith) (omega arith) ∙ one-mul (2 ^ n)
 
@@ -27,4 +24,8 @@ returns-2 c =
     sym (mod-eq-of-lt (lt-of-lt-of-le (c .before .fits .y .fits) (pow-mono {i = maxInputs} {j = a .n} (c .if1 .left))))
 
 pub low-spec : {M : Type 1} → statement M
-low-spec = tie.close (tie.spec shl-result rem-result returns returns-2)
+low-spec = tie.close (tie.spec
+    (λ c. search needs)
+    rem-result
+    returns
+    returns-2)

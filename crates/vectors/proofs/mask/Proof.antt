@@ -10,21 +10,6 @@ use Rattle.vectors.specs.Bounds.{maxInputs}
 use Rattle.vectors.proofs.mask.Statement.{statement}
 use Rattle.vectors.proofs.mask.Tie as tie
 
-enum-known-kind : tie.Need-enum-known-kind
-enum-known-kind c = search needs
-
-place-requires : tie.Need-place-requires
-place-requires c κs = search needs
-
-enum-known-kind-2 : tie.Need-enum-known-kind-2
-enum-known-kind-2 c = search needs
-
-place-requires-2 : tie.Need-place-requires-2
-place-requires-2 c κs = search needs
-
-place-requires-3 : tie.Need-place-requires-3
-place-requires-3 c κs = search needs
-
 returns : tie.Need-returns
 returns c = c .place .ensures ∙ ap (λ (k : Kind). maskOf k % 2 ^ maxInputs) (sym (c .before .before .kind .given .1))
 
@@ -38,10 +23,10 @@ pub mask-spec : {M : Type 1} → statement M
 mask-spec =
     tie.close
     (tie.spec
-    enum-known-kind
-    place-requires
-    enum-known-kind-2
-    place-requires-2
-    place-requires-3
+    (λ c. search needs)
+    (λ c κs. search needs)
+    (λ c. search needs)
+    (λ c κs. search needs)
+    (λ c κs. search needs)
     returns
     returns-2)

@@ -31,12 +31,6 @@ cast-gap c = omega (arith, trailing-le 64 (c .before .loop .m))
 sub-gap : tie.Need-sub-gap Inv-loop μ-loop
 sub-gap c = c .before .loop .inv .1
 
-sub-wrapping-add-u64 : tie.Need-sub-wrapping-add-u64 Inv-loop μ-loop
-sub-wrapping-add-u64 c = search needs
-
-wrapping-add-u64-requires : tie.Need-wrapping-add-u64-requires Inv-loop μ-loop
-wrapping-add-u64-requires c κs = search needs
-
 sub-w : tie.Need-sub-w Inv-loop μ-loop
 sub-w c = omega (arith, turned c .less)
 
@@ -75,8 +69,8 @@ pack-spec =
     loop-holds
     cast-gap
     sub-gap
-    sub-wrapping-add-u64
-    wrapping-add-u64-requires
+    (λ c. search needs)
+    (λ c κs. search needs)
     sub-w
     shr-w
     add-w

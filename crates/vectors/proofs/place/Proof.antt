@@ -16,19 +16,16 @@ returns c = rw (c .if1 .taken)
 returns-2 : tie.Need-returns-2
 returns-2 c = sym (place-out maxInputs _ (c .if2 .taken))
 
-sub-result : tie.Need-sub-result
-sub-result c = search needs
-
-cast-result : tie.Need-cast-result
-cast-result c = search needs
-
-shl-result : tie.Need-shl-result
-shl-result c = search needs
-
 returns-3 : tie.Need-returns-3
 returns-3 c =
     let i = c .before .before .args .i in
     shl-exact {a = 1} 1 (i - 1) maxInputs (omega arith) (omega arith) ∙ one-mul (2 ^ (i - 1)) ∙ sym (place-in maxInputs i (omega arith) (omega arith))
 
 pub place-spec : {M : Type 1} → statement M
-place-spec = tie.close (tie.spec returns returns-2 sub-result cast-result shl-result returns-3)
+place-spec = tie.close (tie.spec
+    returns
+    returns-2
+    (λ c. search needs)
+    (λ c. search needs)
+    (λ c. search needs)
+    returns-3)

@@ -5,20 +5,8 @@ use Rattle.vectors.proofs.Variables.Masking.{word-wraps, word-full}
 use Rattle.vectors.proofs.word.Statement.{statement}
 use Rattle.vectors.proofs.word.Tie as tie
 
-number-requires : tie.Need-number-requires
-number-requires c κs = tt
-
 returns : tie.Need-returns
 returns c = word-full _ (c .before .before .before .args .kept) _ _ (c .if1 .taken) (c .before .number .ensures)
-
-pack-requires : tie.Need-pack-requires
-pack-requires c κs = tt
-
-shl-wrapping-add-u64 : tie.Need-shl-wrapping-add-u64
-shl-wrapping-add-u64 c = search needs
-
-wrapping-add-u64-requires : tie.Need-wrapping-add-u64-requires
-wrapping-add-u64-requires c κs = tt
 
 returns-2 : tie.Need-returns-2
 returns-2 c =
@@ -29,9 +17,9 @@ pub word-spec : {M : Type 1} → statement M
 word-spec =
     tie.close
     (tie.spec
-    number-requires
+    (λ c κs. tt)
     returns
-    pack-requires
-    shl-wrapping-add-u64
-    wrapping-add-u64-requires
+    (λ c κs. tt)
+    (λ c. search needs)
+    (λ c κs. tt)
     returns-2)

@@ -6,27 +6,6 @@ use Rattle.bridge.specs.Flat.{kindWord}
 use Rattle.bridge.proofs.flat.kind_word.Statement.{statement}
 use Rattle.bridge.proofs.flat.kind_word.Tie as tie
 
-enum-known-kind : tie.Need-enum-known-kind
-enum-known-kind c = search needs
-
-cast-result : tie.Need-cast-result
-cast-result c = search needs
-
-enum-known-kind-2 : tie.Need-enum-known-kind-2
-enum-known-kind-2 c = search needs
-
-cast-result-2 : tie.Need-cast-result-2
-cast-result-2 c = search needs
-
-cast-result-3 : tie.Need-cast-result-3
-cast-result-3 c = search needs
-
-mul-result : tie.Need-mul-result
-mul-result c = search needs
-
-add-result : tie.Need-add-result
-add-result c = search needs
-
 returns : tie.Need-returns
 returns c = (ap kindWord (sym (c .before .kind .given .1)), omega arith)
 
@@ -37,12 +16,12 @@ pub kind-word-spec : {M : Type 1} → statement M
 kind-word-spec =
     tie.close
     (tie.spec
-    enum-known-kind
-    cast-result
-    enum-known-kind-2
-    cast-result-2
-    cast-result-3
-    mul-result
-    add-result
+    (λ c. search needs)
+    (λ c. search needs)
+    (λ c. search needs)
+    (λ c. search needs)
+    (λ c. search needs)
+    (λ c. search needs)
+    (λ c. search needs)
     returns
     returns-2)

@@ -4,15 +4,6 @@ use Rattle.bridge.proofs.Twos.{read-fits, read-back}
 use Rattle.bridge.proofs.flat.signed.Statement.{statement}
 use Rattle.bridge.proofs.flat.signed.Tie as tie
 
-cast-result : tie.Need-cast-result
-cast-result c = search needs
-
-returns : tie.Need-returns
-returns c = search needs
-
-cast-result-2 : tie.Need-cast-result-2
-cast-result-2 c = search needs
-
 sub-result : tie.Need-sub-result
 sub-result c = read-fits _ (c .if1 .left) (c .before .fits .w .fits)
 
@@ -20,4 +11,9 @@ returns-2 : tie.Need-returns-2
 returns-2 c = read-back _ (c .if1 .left) (c .before .fits .w .fits)
 
 pub signed-spec : {M : Type 1} → statement M
-signed-spec = tie.close (tie.spec cast-result returns cast-result-2 sub-result returns-2)
+signed-spec = tie.close (tie.spec
+    (λ c. search needs)
+    (λ c. search needs)
+    (λ c. search needs)
+    sub-result
+    returns-2)

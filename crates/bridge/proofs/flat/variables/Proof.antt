@@ -18,32 +18,11 @@ Inv-loop words v₀ i₀ v i = (i ≤ 24) × (length v ≡ 24) × (take i v ≡ 
 abbrev μ-loop : tie.MeasureT-loop
 μ-loop words v₀ i₀ v i = 24 - i
 
-blank-variables-requires : tie.Need-blank-variables-requires Inv-loop μ-loop
-blank-variables-requires c κs = tt
-
 loop-holds : tie.Need-loop-holds Inv-loop μ-loop
 loop-holds c = (omega arith, ap length (c .blank-variables .ensures), refl)
 
-mul-variable-at : tie.Need-mul-variable-at Inv-loop μ-loop
-mul-variable-at c = search needs
-
-shared-slice-read-variable-at : tie.Need-shared-slice-read-variable-at Inv-loop μ-loop
-shared-slice-read-variable-at c = search needs
-
 variable-at-requires : tie.Need-variable-at-requires Inv-loop μ-loop
 variable-at-requires c κs = range-at _ (c .before .before .loop .i) (c .before .before .before .before .before .pre .1) (omega arith)
-
-mul-v : tie.Need-mul-v Inv-loop μ-loop
-mul-v c = search needs
-
-array-set-from-v : tie.Need-array-set-from-v Inv-loop μ-loop
-array-set-from-v c = search needs
-
-add-i : tie.Need-add-i Inv-loop μ-loop
-add-i c = search needs
-
-loop-less : tie.Need-loop-less Inv-loop μ-loop
-loop-less c = search needs
 
 loop-again : tie.Need-loop-again Inv-loop μ-loop
 loop-again c = let l = c .before .before .before .loop in (omega arith, length-set (l .v) (l .i) _ ∙ l .inv .1, mapped-more variableAt _ (l .v) (l .i) _ _ (omega arith) (omega arith) (c .variable-at .ensures) (l .inv .2))
@@ -57,14 +36,14 @@ variables-spec =
     (tie.spec
     Inv-loop
     μ-loop
-    blank-variables-requires
+    (λ c κs. tt)
     loop-holds
-    mul-variable-at
-    shared-slice-read-variable-at
+    (λ c. search needs)
+    (λ c. search needs)
     variable-at-requires
-    mul-v
-    array-set-from-v
-    add-i
-    loop-less
+    (λ c. search needs)
+    (λ c. search needs)
+    (λ c. search needs)
+    (λ c. search needs)
     loop-again
     returns)

@@ -6,12 +6,6 @@ use mathlib.Core.Path.{ap₂}
 use Rattle.bridge.proofs.flat.word.Statement.{statement}
 use Rattle.bridge.proofs.flat.word.Tie as tie
 
-kind-word-requires : tie.Need-kind-word-requires
-kind-word-requires c κs = search needs
-
-part-word-requires : tie.Need-part-word-requires
-part-word-requires c κs = search needs
-
 mul-result : tie.Need-mul-result
 mul-result c = omega (arith, c .part-word .ensures .1)
 
@@ -23,4 +17,9 @@ returns c = ap₂ (λ a b. a + 65536 * b) (c .before .kind-word .ensures .0) (c 
 
 pub word-spec : {M : Type 1} → statement M
 word-spec =
-    tie.close (tie.spec kind-word-requires part-word-requires mul-result add-result returns)
+    tie.close (tie.spec
+    (λ c κs. search needs)
+    (λ c κs. search needs)
+    mul-result
+    add-result
+    returns)

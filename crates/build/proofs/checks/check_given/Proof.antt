@@ -38,26 +38,11 @@ past2 c = past1 (c .before .before) ∙ at-no 8 _ _ (sym (dependent (c .before))
 past3 : (c : tie.Else3) → let s = c .before .before .before .before .before .before .before .before .before in ladder (rungs s) ≡ ladder (drop 3 (rungs s))
 past3 c = past2 (c .before .before) ∙ at-no 9 _ _ (sym (c .before .first-alike .ensures) ∙ c .if3 .left)
 
-cast-first-faulty : tie.Need-cast-first-faulty
-cast-first-faulty c = search needs
-
-first-faulty-requires : tie.Need-first-faulty-requires
-first-faulty-requires c κs = tt
-
-refuse-requires : tie.Need-refuse-requires
-refuse-requires c κs = tt
-
 returns : tie.Need-returns
 returns c =
     let r = c .before .before .first-faulty in
     c .refuse .ensures ∙ ap (λ (i : ℕ). record { number = 8; place = i }) (r .ensures)
     ∙ sym (at-yes 7 _ _ (λ e. c .before .if1 .taken (r .ensures ∙ e)))
-
-first-dependent-requires : tie.Need-first-dependent-requires
-first-dependent-requires c κs = tt
-
-refuse-requires-2 : tie.Need-refuse-requires-2
-refuse-requires-2 c κs = tt
 
 returns-2 : tie.Need-returns-2
 returns-2 c =
@@ -65,20 +50,11 @@ returns-2 c =
     c .refuse2 .ensures ∙ ap (λ (i : ℕ). record { number = 9; place = i }) r
     ∙ sym (past1 (c .before .before .before) ∙ at-yes 8 _ _ (λ e. c .before .if2 .taken (r ∙ e)))
 
-first-alike-requires : tie.Need-first-alike-requires
-first-alike-requires c κs = search needs
-
-refuse-requires-3 : tie.Need-refuse-requires-3
-refuse-requires-3 c κs = tt
-
 returns-3 : tie.Need-returns-3
 returns-3 c =
     let r = c .before .before .first-alike in
     c .refuse3 .ensures ∙ ap (λ (i : ℕ). record { number = 10; place = i }) (r .ensures)
     ∙ sym (past2 (c .before .before .before) ∙ at-yes 9 _ _ (λ e. c .before .if3 .taken (r .ensures ∙ e)))
-
-refuse-requires-4 : tie.Need-refuse-requires-4
-refuse-requires-4 c κs = tt
 
 returns-4 : tie.Need-returns-4
 unfolding ladder
@@ -88,15 +64,15 @@ pub check-given-spec : {M : Type 1} → statement M
 check-given-spec =
     tie.close
     (tie.spec
-    cast-first-faulty
-    first-faulty-requires
-    refuse-requires
+    (λ c. search needs)
+    (λ c κs. tt)
+    (λ c κs. tt)
     returns
-    first-dependent-requires
-    refuse-requires-2
+    (λ c κs. tt)
+    (λ c κs. tt)
     returns-2
-    first-alike-requires
-    refuse-requires-3
+    (λ c κs. search needs)
+    (λ c κs. tt)
     returns-3
-    refuse-requires-4
+    (λ c κs. tt)
     returns-4)

@@ -50,53 +50,20 @@ past7 c = past6 (c .before .before) ∙ at-no 6 _ _ (sym (equal (c .before)) ∙
 inputs : (c : tie.Else5) → (1 ≤ c .before .before .before .before .before .before .before .before .before .before .args .n) × (c .before .before .before .before .before .before .before .before .before .before .args .n ≤ maxInputs)
 inputs c = let d = c .before .before .before .before .before .before .before in in-bounds 1 maxInputs _ (sym (d .before .outside .ensures) ∙ d .if1 .left)
 
-outside-requires : tie.Need-outside-requires
-outside-requires c κs = search needs
-
-refuse-requires : tie.Need-refuse-requires
-refuse-requires c κs = search needs
-
 returns : tie.Need-returns
 returns c = c .refuse .ensures ∙ sym (if-yes 0 _ _ (sym (c .before .before .outside .ensures) ∙ c .before .if1 .taken))
-
-refuse-requires-2 : tie.Need-refuse-requires-2
-refuse-requires-2 c κs = search needs
 
 returns-2 : tie.Need-returns-2
 returns-2 c = c .refuse2 .ensures ∙ sym (past1 (c .before .before) ∙ if-yes 1 _ _ (c .before .if2 .taken))
 
-outside-requires-2 : tie.Need-outside-requires-2
-outside-requires-2 c κs = search needs
-
-refuse-requires-3 : tie.Need-refuse-requires-3
-refuse-requires-3 c κs = search needs
-
 returns-3 : tie.Need-returns-3
 returns-3 c = c .refuse3 .ensures ∙ sym (past2 (c .before .before .before) ∙ if-yes 2 _ _ (sym (c .before .before .outside2 .ensures) ∙ c .before .if3 .taken))
-
-outside-requires-3 : tie.Need-outside-requires-3
-outside-requires-3 c κs = search needs
-
-refuse-requires-4 : tie.Need-refuse-requires-4
-refuse-requires-4 c κs = search needs
 
 returns-4 : tie.Need-returns-4
 returns-4 c = c .refuse4 .ensures ∙ sym (past3 (c .before .before .before) ∙ if-yes 3 _ _ (sym (c .before .before .outside3 .ensures) ∙ c .before .if4 .taken))
 
-too-short-requires : tie.Need-too-short-requires
-too-short-requires c κs = search needs
-
-refuse-requires-5 : tie.Need-refuse-requires-5
-refuse-requires-5 c κs = search needs
-
 returns-5 : tie.Need-returns-5
 returns-5 c = c .refuse5 .ensures ∙ sym (past4 (c .before .before .before) ∙ if-yes 4 _ _ (sym (c .before .before .too-short .ensures) ∙ c .before .if5 .taken))
-
-first-beyond-requires : tie.Need-first-beyond-requires
-first-beyond-requires c κs = search needs
-
-refuse-requires-6 : tie.Need-refuse-requires-6
-refuse-requires-6 c κs = search needs
 
 returns-6 : tie.Need-returns-6
 returns-6 c =
@@ -104,20 +71,11 @@ returns-6 c =
     c .refuse6 .ensures ∙ ap (λ (i : ℕ). record { number = 6; place = i }) (r .ensures)
     ∙ sym (past5 (c .before .before .before) ∙ at-yes 5 _ _ (λ e. c .before .if6 .taken (r .ensures ∙ e)))
 
-first-repeat-requires : tie.Need-first-repeat-requires
-first-repeat-requires c κs = search needs
-
-refuse-requires-7 : tie.Need-refuse-requires-7
-refuse-requires-7 c κs = search needs
-
 returns-7 : tie.Need-returns-7
 returns-7 c =
     let r = equal (c .before .before) in
     c .refuse7 .ensures ∙ ap (λ (i : ℕ). record { number = 7; place = i }) r
     ∙ sym (past6 (c .before .before .before) ∙ at-yes 6 _ _ (λ e. c .before .if7 .taken (r ∙ e)))
-
-refuse-requires-8 : tie.Need-refuse-requires-8
-refuse-requires-8 c κs = search needs
 
 returns-8 : tie.Need-returns-8
 unfolding ladder
@@ -127,25 +85,25 @@ pub check-list-spec : {M : Type 1} → statement M
 check-list-spec =
     tie.close
     (tie.spec
-    outside-requires
-    refuse-requires
+    (λ c κs. search needs)
+    (λ c κs. search needs)
     returns
-    refuse-requires-2
+    (λ c κs. search needs)
     returns-2
-    outside-requires-2
-    refuse-requires-3
+    (λ c κs. search needs)
+    (λ c κs. search needs)
     returns-3
-    outside-requires-3
-    refuse-requires-4
+    (λ c κs. search needs)
+    (λ c κs. search needs)
     returns-4
-    too-short-requires
-    refuse-requires-5
+    (λ c κs. search needs)
+    (λ c κs. search needs)
     returns-5
-    first-beyond-requires
-    refuse-requires-6
+    (λ c κs. search needs)
+    (λ c κs. search needs)
     returns-6
-    first-repeat-requires
-    refuse-requires-7
+    (λ c κs. search needs)
+    (λ c κs. search needs)
     returns-7
-    refuse-requires-8
+    (λ c κs. search needs)
     returns-8)

@@ -15,17 +15,8 @@ use Rattle.vectors.proofs.Variables.Masking.{numbers-masks, masks-all}
 use Rattle.build.proofs.checks.first_alike.Statement.{statement}
 use Rattle.build.proofs.checks.first_alike.Tie as tie
 
-masks-requires : tie.Need-masks-requires
-masks-requires c κs = tt
-
-array-share-prefix-masks : tie.Need-array-share-prefix-masks
-array-share-prefix-masks c = search needs
-
 slice-aggregate-numbers : tie.Need-slice-aggregate-numbers
 slice-aggregate-numbers c = sym (length-take-le _ _ (omega (arith, c .before .masks .ok)))
-
-slice-aggregate-numbers-2 : tie.Need-slice-aggregate-numbers-2
-slice-aggregate-numbers-2 c = search needs
 
 numbers-requires : tie.Need-numbers-requires
 numbers-requires c κs =
@@ -38,9 +29,6 @@ array-share-prefix-out c = omega (arith, c .before .numbers .kept .1 .1 .0)
 
 slice-aggregate-first-repeat : tie.Need-slice-aggregate-first-repeat
 slice-aggregate-first-repeat c = sym (length-take-le _ _ (omega (arith, c .before .before .numbers .kept .1 .1 .0)))
-
-first-repeat-requires : tie.Need-first-repeat-requires
-first-repeat-requires c κs = tt
 
 returns : tie.Need-returns
 returns c =
@@ -57,12 +45,12 @@ pub first-alike-spec : {M : Type 1} → statement M
 first-alike-spec =
     tie.close
     (tie.spec
-    masks-requires
-    array-share-prefix-masks
+    (λ c κs. tt)
+    (λ c. search needs)
     slice-aggregate-numbers
-    slice-aggregate-numbers-2
+    (λ c. search needs)
     numbers-requires
     array-share-prefix-out
     slice-aggregate-first-repeat
-    first-repeat-requires
+    (λ c κs. tt)
     returns)

@@ -48,12 +48,6 @@ kept-is c =
     c .kept-inputs .ensures
     ∙ ap₂ kept (inputs-same (t .n) (s .pre .1 .0 .inputs)) (kinds-same (t .n) (t .p) (t .variables) (s .pre .1 .0 .inputs) (s .pre .1 .1 .right))
 
-masks-requires : tie.Need-masks-requires
-masks-requires c κs = tt
-
-kept-inputs-requires : tie.Need-kept-inputs-requires
-kept-inputs-requires c κs = tt
-
 array-share-prefix-masks : tie.Need-array-share-prefix-masks
 array-share-prefix-masks c = omega (arith, few (c .before .before .before .before .before), c .before .before .before .before .before .pre .0 .1)
 
@@ -74,15 +68,6 @@ cast-excess c = omega (arith, c .before .before .before .before .before .before 
 cast-excess-2 : tie.Need-cast-excess-2
 cast-excess-2 c = omega (arith, c .before .before .before .before .before .before .before .before .before .before .pre .1 .0 .few)
 
-excess-requires : tie.Need-excess-requires
-excess-requires c κs = tt
-
-marked-requires : tie.Need-marked-requires
-marked-requires c κs = tt
-
-same-length : tie.Need-same-length
-same-length c = search needs
-
 returns : tie.Need-returns
 returns c =
     let s = c .before .before .before .before .before .before .before .before .before .before .before .before in (
@@ -96,14 +81,14 @@ pub accept-spec : {M : Type 1} → statement M
 accept-spec =
     tie.close
     (tie.spec
-    masks-requires
-    kept-inputs-requires
+    (λ c κs. tt)
+    (λ c κs. tt)
     array-share-prefix-masks
     slice-aggregate-write-words
     write-words-requires
     cast-excess
     cast-excess-2
-    excess-requires
-    marked-requires
-    same-length
+    (λ c κs. tt)
+    (λ c κs. tt)
+    (λ c. search needs)
     returns)

@@ -18,34 +18,16 @@ use Rattle.build.proofs.finish.complete.Tie as tie
 power : (s : tie.Start) → 1 * 2 ^ s .args .chart .n1 % 2 ^ maxInputs ≡ 2 ^ s .args .chart .n1
 power s = shl-exact {a = 1} 1 (s .args .chart .n1) maxInputs (omega arith) (omega (arith, s .pre .1 .1 .rows-few)) ∙ one-mul (2 ^ s .args .chart .n1)
 
-shl-rows : tie.Need-shl-rows
-shl-rows c = search needs
-
-refused-requires : tie.Need-refused-requires
-refused-requires c κs = search needs
-
 returns : tie.Need-returns
 returns c =
     let s = c .before .before .before .before .before .before .before in
     end-short (s .args .chart .n) (s .args .chart .n1) (kindsBy (s .args .chart)) (s .args .cells) (s .args .vectors .now) (s .args .h .now) (s .args .g .now) (s .args .aux .now) _ (omega (arith, power s, c .before .if1 .taken)) (c .refused .ensures)
 
-add-last : tie.Need-add-last
-add-last c = search needs
-
-slice-relend-prefix-finish : tie.Need-slice-relend-prefix-finish
-slice-relend-prefix-finish c = search needs
-
 slice-aggregate-finish : tie.Need-slice-aggregate-finish
 slice-aggregate-finish c = sym (length-take-le _ _ (search needs))
 
-slice-relend-prefix-finish-2 : tie.Need-slice-relend-prefix-finish-2
-slice-relend-prefix-finish-2 c = search needs
-
 slice-aggregate-finish-2 : tie.Need-slice-aggregate-finish-2
 slice-aggregate-finish-2 c = let s = c .before .before .before .before .before .before .before .before in sym (length-take-le (s .args .cells) (s .args .g .now) (s .pre .0 .0))
-
-slice-relend-prefix-finish-3 : tie.Need-slice-relend-prefix-finish-3
-slice-relend-prefix-finish-3 c = search needs
 
 slice-aggregate-finish-3 : tie.Need-slice-aggregate-finish-3
 slice-aggregate-finish-3 c = let s = c .before .before .before .before .before .before .before .before .before in sym (length-take-le (length (s .args .vectors .now) + 1) (s .args .aux .now) (omega (arith, s .pre .0 .2)))
@@ -57,15 +39,6 @@ finish-requires c κs =
     let a = length-take-le (length (s .args .vectors .now) + 1) (s .args .aux .now) (omega (arith, q .2)) in
     ((a ∙ add-one (length (s .args .vectors .now)), length-take-le _ (s .args .h .now) (c .before .before .before .if1 .left) ∙ power s, omega (arith, length-take-le (s .args .cells) (s .args .g .now) (q .0), q .1), q .3), s .pre .1)
 
-same-length : tie.Need-same-length
-same-length c = search needs
-
-same-length-2 : tie.Need-same-length-2
-same-length-2 c = search needs
-
-same-length-3 : tie.Need-same-length-3
-same-length-3 c = search needs
-
 returns-2 : tie.Need-returns-2
 returns-2 c =
     let s = c .before .before .before .before .before .before .before .before .before .before .before .before .before .before .before .before in
@@ -75,18 +48,18 @@ pub complete-spec : {M : Type 1} → statement M
 complete-spec =
     tie.close
     (tie.spec
-    shl-rows
-    refused-requires
+    (λ c. search needs)
+    (λ c κs. search needs)
     returns
-    add-last
-    slice-relend-prefix-finish
+    (λ c. search needs)
+    (λ c. search needs)
     slice-aggregate-finish
-    slice-relend-prefix-finish-2
+    (λ c. search needs)
     slice-aggregate-finish-2
-    slice-relend-prefix-finish-3
+    (λ c. search needs)
     slice-aggregate-finish-3
     finish-requires
-    same-length
-    same-length-2
-    same-length-3
+    (λ c. search needs)
+    (λ c. search needs)
+    (λ c. search needs)
     returns-2)

@@ -34,30 +34,6 @@ enum-told c = search needs
 accept-requires : tie.Need-accept-requires
 accept-requires c κs = let s = c .before .before .before .before .before .before .before .before .before .before .before .before .before .before .before .before .before in ((c .before .before .before .before .before .before .before .before .before .place-all .kept .1 .1 .1 .1 .0 ∙ s .pre .0 .0, s .pre .0 .3), (s .pre .1 .0, s .pre .1 .1))
 
-enum-known-end : tie.Need-enum-known-end
-enum-known-end c = search needs
-
-clear64-requires : tie.Need-clear64-requires
-clear64-requires c κs = search needs
-
-refused-requires : tie.Need-refused-requires
-refused-requires c κs = search needs
-
-enum-told-2 : tie.Need-enum-told-2
-enum-told-2 c = search needs
-
-refused-requires-2 : tie.Need-refused-requires-2
-refused-requires-2 c κs = search needs
-
-same-length : tie.Need-same-length
-same-length c = search needs
-
-same-length-2 : tie.Need-same-length-2
-same-length-2 c = search needs
-
-same-length-3 : tie.Need-same-length-3
-same-length-3 c = search needs
-
 returns : tie.Need-returns
 returns c =
     let s = c .before .before .before .before .before .before .before .before .before .before .before .before .before .before .before .before .before .before .before .before in
@@ -67,15 +43,6 @@ returns c =
     (c .before .before .accept .ensures .0 ∙ ap (λ (d : ℕ). accepted (recordOf (s .args .chart .n) (s .args .chart .n1) (length (s .args .vectors .now)) (kindsBy (s .args .chart)) d (a .result .tries))) (a .kept .1 .1 .1 .0))
     (w .rows-are) (w .cells-are) (c .before .before .accept .ensures .1)
 
-same-length-4 : tie.Need-same-length-4
-same-length-4 c = search needs
-
-same-length-5 : tie.Need-same-length-5
-same-length-5 c = search needs
-
-same-length-6 : tie.Need-same-length-6
-same-length-6 c = search needs
-
 returns-2 : tie.Need-returns-2
 returns-2 c =
     let s = c .before .before .before .before .before .before .before .before .before .before .before .before .before .before .before .before .before .before .before .before .before .before in
@@ -84,15 +51,6 @@ returns-2 c =
     let w = when-stuck (placingOf (s .args .chart .n1) (kindsBy (s .args .chart)) (length (s .args .g .now)) (s .args .vectors .now)) _ _ _ _ _ (a .ensures) (k .0 .0) (k .0 .1 .0) (k .1) in
     end-stuck (s .args .chart .n) (s .args .chart .n1) (kindsBy (s .args .chart)) (s .args .vectors .now) (s .args .h .now) (s .args .g .now) (s .args .aux .now) (s .pre .0 .1) (s .pre .0 .0) _ _ _ _ (k .0 .0) (k .0 .1 .0) (w .end-is) (c .refused .ensures) (w .rows-are ∙ ap (λ (d : ℕ). replicate d 0) (sym (s .pre .0 .1))) (w .cells-are)
     (c .before .before .before .clear64 .ensures ∙ ap (λ (d : ℕ). replicate d 0) (a .kept .1 .1 .1 .1 .0))
-
-same-length-7 : tie.Need-same-length-7
-same-length-7 c = search needs
-
-same-length-8 : tie.Need-same-length-8
-same-length-8 c = search needs
-
-same-length-9 : tie.Need-same-length-9
-same-length-9 c = search needs
 
 returns-3 : tie.Need-returns-3
 returns-3 c =
@@ -106,20 +64,20 @@ finish-spec =
     place-all-requires
     enum-told
     accept-requires
-    enum-known-end
-    clear64-requires
-    refused-requires
-    enum-told-2
-    refused-requires-2
-    same-length
-    same-length-2
-    same-length-3
+    (λ c. search needs)
+    (λ c κs. search needs)
+    (λ c κs. search needs)
+    (λ c. search needs)
+    (λ c κs. search needs)
+    (λ c. search needs)
+    (λ c. search needs)
+    (λ c. search needs)
     returns
-    same-length-4
-    same-length-5
-    same-length-6
+    (λ c. search needs)
+    (λ c. search needs)
+    (λ c. search needs)
     returns-2
-    same-length-7
-    same-length-8
-    same-length-9
+    (λ c. search needs)
+    (λ c. search needs)
+    (λ c. search needs)
     returns-3)

@@ -27,15 +27,6 @@ masks-are c =
 masks-size : (c : tie.After-masks) → length (take (c .before .before .before .before .before .before .args .chart .p) (c .masks .result)) ≡ c .before .before .before .before .before .before .args .chart .p
 masks-size c = ap length (masks-are c) ∙ masks-length (kindsBy (c .before .before .before .before .before .before .args .chart)) ∙ size (c .before .before .before .before .before .before)
 
-masks-requires : tie.Need-masks-requires
-masks-requires c κs = tt
-
-clear16-requires : tie.Need-clear16-requires
-clear16-requires c κs = tt
-
-array-share-prefix-masks : tie.Need-array-share-prefix-masks
-array-share-prefix-masks c = search needs
-
 slice-aggregate-write-places : tie.Need-slice-aggregate-write-places
 slice-aggregate-write-places c = sym (masks-size (c .before .before .before .before .before))
 
@@ -45,18 +36,6 @@ write-places-requires c κs =
     let m = masks-size (c .before .before .before .before .before .before) in
     let v = s .pre .1 .1 in
     (s .pre .0 .0, omega (arith, v), v .2, omega (arith, v))
-
-place-requires : tie.Need-place-requires
-place-requires c κs = tt
-
-same-length : tie.Need-same-length
-same-length c = search needs
-
-same-length-2 : tie.Need-same-length-2
-same-length-2 c = search needs
-
-same-length-3 : tie.Need-same-length-3
-same-length-3 c = search needs
 
 returns : tie.Need-returns
 returns c =
@@ -72,13 +51,13 @@ pub place-all-spec : {M : Type 1} → statement M
 place-all-spec =
     tie.close
     (tie.spec
-    masks-requires
-    clear16-requires
-    array-share-prefix-masks
+    (λ c κs. tt)
+    (λ c κs. tt)
+    (λ c. search needs)
     slice-aggregate-write-places
     write-places-requires
-    place-requires
-    same-length
-    same-length-2
-    same-length-3
+    (λ c κs. tt)
+    (λ c. search needs)
+    (λ c. search needs)
+    (λ c. search needs)
     returns)

@@ -45,41 +45,11 @@ small c =
     let m = s .args .masks .now in
     (rw (row (c .before .before)) (number-side (take (s .args .n1) m) _ (omega (arith, length-take (s .args .n1) m, s .pre .2))), rw (column c) (number-side (drop (s .args .n1) m) _ (omega (arith, length-drop (s .args .n1) m, s .pre .3))))
 
-slice-write-aux : tie.Need-slice-write-aux Inv-loop μ-loop
-slice-write-aux c = search needs
-
 loop-holds : tie.Need-loop-holds Inv-loop μ-loop
 loop-holds c = let s = c .before .before .before in (length-set (s .args .aux .now) 0 0 ∙ s .pre .0, writing-none _ _ (s .args .aux .now) (s .pre .0))
 
-mul-x : tie.Need-mul-x Inv-loop μ-loop
-mul-x c = search needs
-
-shared-slice-read-x : tie.Need-shared-slice-read-x Inv-loop μ-loop
-shared-slice-read-x c = search needs
-
 slice-aggregate-number : tie.Need-slice-aggregate-number Inv-loop μ-loop
 slice-aggregate-number c = let s = c .before .before .before .before .before .before .before in sym (length-take-le (s .args .n1) (s .args .masks .now) (s .pre .1))
-
-number-requires : tie.Need-number-requires Inv-loop μ-loop
-number-requires c κs = tt
-
-mul-number : tie.Need-mul-number Inv-loop μ-loop
-mul-number c = search needs
-
-sub-number : tie.Need-sub-number Inv-loop μ-loop
-sub-number c = search needs
-
-part-number-start : tie.Need-part-number-start Inv-loop μ-loop
-part-number-start c = search needs
-
-part-number-end : tie.Need-part-number-end Inv-loop μ-loop
-part-number-end c = search needs
-
-number-requires-2 : tie.Need-number-requires-2 Inv-loop μ-loop
-number-requires-2 c κs = tt
-
-add-i : tie.Need-add-i Inv-loop μ-loop
-add-i c = search needs
 
 mul-aux : tie.Need-mul-aux Inv-loop μ-loop
 mul-aux c = omega (arith, small c)
@@ -87,14 +57,8 @@ mul-aux c = omega (arith, small c)
 add-aux : tie.Need-add-aux Inv-loop μ-loop
 add-aux c = omega (arith, small c)
 
-mul-aux-2 : tie.Need-mul-aux-2 Inv-loop μ-loop
-mul-aux-2 c = search needs
-
 slice-write-aux-2 : tie.Need-slice-write-aux-2 Inv-loop μ-loop
 slice-write-aux-2 c = omega (arith, c .before .before .before .before .before .before .loop .inv .1 .size)
-
-loop-less : tie.Need-loop-less Inv-loop μ-loop
-loop-less c = search needs
 
 loop-again : tie.Need-loop-again Inv-loop μ-loop
 loop-again c =
@@ -113,23 +77,23 @@ write-places-spec =
     (tie.spec
     Inv-loop
     μ-loop
-    slice-write-aux
+    (λ c. search needs)
     loop-holds
-    mul-x
-    shared-slice-read-x
+    (λ c. search needs)
+    (λ c. search needs)
     slice-aggregate-number
-    number-requires
-    mul-number
-    sub-number
-    part-number-start
-    part-number-end
-    number-requires-2
-    add-i
+    (λ c κs. tt)
+    (λ c. search needs)
+    (λ c. search needs)
+    (λ c. search needs)
+    (λ c. search needs)
+    (λ c κs. tt)
+    (λ c. search needs)
     mul-aux
     add-aux
-    mul-aux-2
+    (λ c. search needs)
     slice-write-aux-2
-    loop-less
+    (λ c. search needs)
     loop-again
     same-length
     returns)

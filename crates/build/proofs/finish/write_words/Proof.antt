@@ -16,32 +16,11 @@ Inv-loop vectors rows kept aux₀ i₀ aux i = (length aux₀ ≡ suc (length ve
 abbrev μ-loop : tie.MeasureT-loop
 μ-loop vectors rows kept aux₀ i₀ aux i = length vectors - i
 
-slice-write-aux : tie.Need-slice-write-aux Inv-loop μ-loop
-slice-write-aux c = search needs
-
 loop-holds : tie.Need-loop-holds Inv-loop μ-loop
 loop-holds c = let s = c .before .before .before in (length-set (s .args .aux .now) 0 0 ∙ s .pre .0, writing-none _ _ (s .args .aux .now) (s .pre .0))
 
-mul-x : tie.Need-mul-x Inv-loop μ-loop
-mul-x c = search needs
-
-shared-slice-read-x : tie.Need-shared-slice-read-x Inv-loop μ-loop
-shared-slice-read-x c = search needs
-
-add-i : tie.Need-add-i Inv-loop μ-loop
-add-i c = search needs
-
-word-requires : tie.Need-word-requires Inv-loop μ-loop
-word-requires c κs = tt
-
-mul-aux : tie.Need-mul-aux Inv-loop μ-loop
-mul-aux c = search needs
-
 slice-write-aux-2 : tie.Need-slice-write-aux-2 Inv-loop μ-loop
 slice-write-aux-2 c = omega (arith, c .before .before .before .loop .inv .1 .size)
-
-loop-less : tie.Need-loop-less Inv-loop μ-loop
-loop-less c = search needs
 
 loop-again : tie.Need-loop-again Inv-loop μ-loop
 loop-again c =
@@ -60,15 +39,15 @@ write-words-spec =
     (tie.spec
     Inv-loop
     μ-loop
-    slice-write-aux
+    (λ c. search needs)
     loop-holds
-    mul-x
-    shared-slice-read-x
-    add-i
-    word-requires
-    mul-aux
+    (λ c. search needs)
+    (λ c. search needs)
+    (λ c. search needs)
+    (λ c κs. tt)
+    (λ c. search needs)
     slice-write-aux-2
-    loop-less
+    (λ c. search needs)
     loop-again
     same-length
     returns)

@@ -23,38 +23,17 @@ most-requires c κs =
     let s = c .before .before .before in
     halves-low (s .args .sizes .now) (omega (arith, s .pre .0 .0 .sum, s .pre .0 .0 .few))
 
-slice-aggregate-lay : tie.Need-slice-aggregate-lay
-slice-aggregate-lay c = search needs
-
-slice-aggregate-lay-2 : tie.Need-slice-aggregate-lay-2
-slice-aggregate-lay-2 c = search needs
-
 lay-requires : tie.Need-lay-requires
 lay-requires c κs =
     let m = c .before .before .before in
     let p = start m .pre in
     ((record { sum = p .0 .0 .sum; few = p .0 .0 .few }, m .most .ensures), (p .1, refl, search needs))
 
-add-blocks : tie.Need-add-blocks
-add-blocks c = search needs
-
-draw-requires : tie.Need-draw-requires
-draw-requires c κs = search needs
-
-array-share-prefix-ends : tie.Need-array-share-prefix-ends
-array-share-prefix-ends c = search needs
-
 slice-aggregate-best-of : tie.Need-slice-aggregate-best-of
 slice-aggregate-best-of c = let o = laid (c .before .before .before .before) .lay .ensures in o .whole-is ∙ sym (ap length (o .ends-are))
 
-array-share-prefix-rests : tie.Need-array-share-prefix-rests
-array-share-prefix-rests c = search needs
-
 slice-aggregate-best-of-2 : tie.Need-slice-aggregate-best-of-2
 slice-aggregate-best-of-2 c = rests-size (laid (c .before .before .before .before .before) .lay .ensures)
-
-mul-best-of : tie.Need-mul-best-of
-mul-best-of c = search needs
 
 best-of-requires : tie.Need-best-of-requires
 best-of-requires c κs =
@@ -64,9 +43,6 @@ best-of-requires c κs =
       (s .some, s .inputs, rw (counted l .most .ensures) (made-sheets _ _ _ _ _ _ _ _ s (l .lay .ensures) (d .draw .ensures))),
       made-beaten _ _ _ _ _ _ _ _ s (l .lay .ensures) (d .draw .ensures) _ t,
     )
-
-same-length : tie.Need-same-length
-same-length c = search needs
 
 returns : tie.Need-returns
 returns c =
@@ -79,16 +55,16 @@ best-spec =
     tie.close
     (tie.spec
     most-requires
-    slice-aggregate-lay
-    slice-aggregate-lay-2
+    (λ c. search needs)
+    (λ c. search needs)
     lay-requires
-    add-blocks
-    draw-requires
-    array-share-prefix-ends
+    (λ c. search needs)
+    (λ c κs. search needs)
+    (λ c. search needs)
     slice-aggregate-best-of
-    array-share-prefix-rests
+    (λ c. search needs)
     slice-aggregate-best-of-2
-    mul-best-of
+    (λ c. search needs)
     best-of-requires
-    same-length
+    (λ c. search needs)
     returns)

@@ -16,32 +16,8 @@ abbrev μ-loop : tie.MeasureT-loop
 loop-holds : tie.Need-loop-holds Inv-loop μ-loop
 loop-holds c = (omega arith, drawing-none _ (c .before .pre .0))
 
-mul-from : tie.Need-mul-from Inv-loop μ-loop
-mul-from c = search needs
-
-add-to : tie.Need-add-to Inv-loop μ-loop
-add-to c = search needs
-
-mul-transpose : tie.Need-mul-transpose Inv-loop μ-loop
-mul-transpose c = search needs
-
-sub-transpose : tie.Need-sub-transpose Inv-loop μ-loop
-sub-transpose c = search needs
-
-part-transpose-start : tie.Need-part-transpose-start Inv-loop μ-loop
-part-transpose-start c = search needs
-
 part-transpose-end : tie.Need-part-transpose-end Inv-loop μ-loop
 part-transpose-end c = omega (arith, c .before .loop .inv .1 .drawn .size, c .before .before .before .pre .1)
-
-transpose-requires : tie.Need-transpose-requires Inv-loop μ-loop
-transpose-requires c κs = search needs
-
-add-w : tie.Need-add-w Inv-loop μ-loop
-add-w c = search needs
-
-loop-less : tie.Need-loop-less Inv-loop μ-loop
-loop-less c = search needs
 
 loop-again : tie.Need-loop-again Inv-loop μ-loop
 loop-again c =
@@ -66,15 +42,15 @@ draw-spec =
     Inv-loop
     μ-loop
     loop-holds
-    mul-from
-    add-to
-    mul-transpose
-    sub-transpose
-    part-transpose-start
+    (λ c. search needs)
+    (λ c. search needs)
+    (λ c. search needs)
+    (λ c. search needs)
+    (λ c. search needs)
     part-transpose-end
-    transpose-requires
-    add-w
-    loop-less
+    (λ c κs. search needs)
+    (λ c. search needs)
+    (λ c. search needs)
     loop-again
     same-length
     returns)

@@ -22,29 +22,8 @@ abbrev μ-loop : tie.MeasureT-loop
 returns : tie.Need-returns Inv-loop μ-loop
 returns c = all-none _ _ _ (c .if1 .taken) (omega arith) (omega arith)
 
-cast-sizes : tie.Need-cast-sizes Inv-loop μ-loop
-cast-sizes c = search needs
-
-array-write-sizes : tie.Need-array-write-sizes Inv-loop μ-loop
-array-write-sizes c = search needs
-
 loop-holds : tie.Need-loop-holds Inv-loop μ-loop
 loop-holds c = (omega arith, refl, unfold numbers in refl)
-
-cast-order : tie.Need-cast-order Inv-loop μ-loop
-cast-order c = search needs
-
-mul-order : tie.Need-mul-order Inv-loop μ-loop
-mul-order c = search needs
-
-array-write-order : tie.Need-array-write-order Inv-loop μ-loop
-array-write-order c = search needs
-
-add-i : tie.Need-add-i Inv-loop μ-loop
-add-i c = search needs
-
-loop-less : tie.Need-loop-less Inv-loop μ-loop
-loop-less c = search needs
 
 loop-again : tie.Need-loop-again Inv-loop μ-loop
 loop-again c =
@@ -64,13 +43,13 @@ all-spec =
     Inv-loop
     μ-loop
     returns
-    cast-sizes
-    array-write-sizes
+    (λ c. search needs)
+    (λ c. search needs)
     loop-holds
-    cast-order
-    mul-order
-    array-write-order
-    add-i
-    loop-less
+    (λ c. search needs)
+    (λ c. search needs)
+    (λ c. search needs)
+    (λ c. search needs)
+    (λ c. search needs)
     loop-again
     returns-2)

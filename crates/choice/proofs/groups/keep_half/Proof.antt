@@ -27,17 +27,8 @@ low c =
 loop-holds : tie.Need-loop-holds Inv-loop μ-loop
 loop-holds c = listing-none _ _ _ _ _
 
-mul-m : tie.Need-mul-m Inv-loop μ-loop
-mul-m c = search needs
-
 shared-slice-read-m : tie.Need-shared-slice-read-m Inv-loop μ-loop
 shared-slice-read-m c = c .before .loop-test .taken
-
-add-i : tie.Need-add-i Inv-loop μ-loop
-add-i c = search needs
-
-mul-out : tie.Need-mul-out Inv-loop μ-loop
-mul-out c = search needs
 
 slice-write-out : tie.Need-slice-write-out Inv-loop μ-loop
 slice-write-out c =
@@ -53,12 +44,6 @@ mul-value c = omega (arith, low (c .before), start (c .before .before) .good .0)
 shared-slice-read-value : tie.Need-shared-slice-read-value Inv-loop μ-loop
 shared-slice-read-value c = low (c .before .before)
 
-value-requires : tie.Need-value-requires Inv-loop μ-loop
-value-requires c κs = tt
-
-cast-to : tie.Need-cast-to Inv-loop μ-loop
-cast-to c = tt
-
 -- before `add-to`, which reads the place from it
 loop-again : tie.Need-loop-again Inv-loop μ-loop
 loop-again c =
@@ -69,9 +54,6 @@ add-to : tie.Need-add-to Inv-loop μ-loop
 add-to c =
     let s = start (c .before .before .before .before) in
     omega (arith, loop-again c .place, s .pre .1 .order-room, s .good .1 .1 .1 .1 .0)
-
-loop-less : tie.Need-loop-less Inv-loop μ-loop
-loop-less c = search needs
 
 -- the half is written
 module _ (c : tie.After-loop Inv-loop μ-loop) where
@@ -96,20 +78,11 @@ sub-sizes c = omega (arith, listed (c .before) .place)
 cast-sizes : tie.Need-cast-sizes Inv-loop μ-loop
 cast-sizes c = omega (arith, listed (c .before) .place, start (c .before .before) .pre .1 .few)
 
-mul-sizes : tie.Need-mul-sizes Inv-loop μ-loop
-mul-sizes c = search needs
-
 slice-write-sizes : tie.Need-slice-write-sizes Inv-loop μ-loop
 slice-write-sizes c = start (c .before .before) .pre .1 .sizes-room
 
-add-t23 : tie.Need-add-t23 Inv-loop μ-loop
-add-t23 c = search needs
-
 same-length-2 : tie.Need-same-length-2 Inv-loop μ-loop
 same-length-2 c = c .before .before .loop .inv .size
-
-same-length-3 : tie.Need-same-length-3 Inv-loop μ-loop
-same-length-3 c = search needs
 
 returns-2 : tie.Need-returns-2 Inv-loop μ-loop
 returns-2 c = adds-one _ _ _ _ _ _ (listed (c .before)) (start (c .before .before) .pre .1) (c .if1 .left)
@@ -121,27 +94,27 @@ keep-half-spec =
     Inv-loop
     μ-loop
     loop-holds
-    mul-m
+    (λ c. search needs)
     shared-slice-read-m
-    add-i
-    mul-out
+    (λ c. search needs)
+    (λ c. search needs)
     slice-write-out
     cast-value
     mul-value
     shared-slice-read-value
-    value-requires
-    cast-to
+    (λ c κs. tt)
+    (λ c. tt)
     add-to
-    loop-less
+    (λ c. search needs)
     loop-again
     sub-if1
     same-length
     returns
     sub-sizes
     cast-sizes
-    mul-sizes
+    (λ c. search needs)
     slice-write-sizes
-    add-t23
+    (λ c. search needs)
     same-length-2
-    same-length-3
+    (λ c. search needs)
     returns-2)

@@ -1,181 +1,43 @@
 -- `choice::judge::gain` meets its contract. Assumes nothing.
-use borrow.Author.Needs.{needs}
-use Prim.Native.Nat.{ℕ, _+_, _-_, _*_, _/_, _≤_, _<_}
+use Prim.Native.Nat.{ℕ}
 use native.Mathlib.Omega.{arith}
-use mathlib.Core.Path.{_≡_, refl, ap, subst, _∙_}
-use mathlib.Core.List.{List}
-use lib.Count.{ones}
-use lib.ListN.{length, getD}
-use Rattle.choice.specs.Inner.Gain.{splits, wholeGain, mostOf}
-use Rattle.choice.specs.Inner.Judged.{maxGain, tallyAt, Judges}
-use Rattle.choice.proofs.Counting.Judging.{Hoping, hoping-start, hoping-on, hoping-end, hopeless, room-here, tallying-all, ends-high, ends-low, square-low, gain-sum, gain-whole, sheet-pairs, sheet-low, judges-none}
+use mathlib.Core.Path.{refl, subst}
+use lib.ListN.{length}
+use Rattle.choice.specs.Inner.Judged.{Judges}
+use Rattle.choice.proofs.Counting.Judging.{gain-sum, gain-whole, sheet-pairs, sheet-low, judges-none}
 use Rattle.choice.proofs.judge.gain.Statement.{statement}
 use Rattle.choice.proofs.judge.gain.Tie as tie
 
-abbrev Inv-loop : tie.InvT-loop
-Inv-loop columns ends rests most i j beat gain₀ counted₀ room₀ w₀ gain counted room w = Hoping ends (tallyAt columns i j) (most - mostOf ends) gain counted room w
+whole-requires : tie.Need-whole-requires
+whole-requires c κs =
+    let a = c .before .before .before .args in
+    let p = c .before .before .before .pre in
+    let large = gain-whole (a .columns .now) (a .ends .now) (length (a .rests .now)) (a .i) (a .j) in (
+      (p .first-in, p .second-in, omega (arith, p .whole, p .fit), p .size, p .second-some),
+      (p .counts, (omega (arith, p .low, large), p .most-high, p .most-low)),
+    )
 
-abbrev μ-loop : tie.MeasureT-loop
-μ-loop columns ends rests most i j beat gain₀ counted₀ room₀ w₀ gain counted room w = length ends - w
-
-abbrev start : tie.At-loop Inv-loop μ-loop → tie.Start Inv-loop μ-loop
-start l = l .before .before .before .before
-
--- the tallies of the blocks
-abbrev tallies : tie.Start Inv-loop μ-loop → ℕ → ℕ
-tallies s = tallyAt (s .args .columns .now) (s .args .i) (s .args .j)
-
-loop-holds : tie.Need-loop-holds Inv-loop μ-loop
-loop-holds c = let p = c .before .before .before .pre in hoping-start _ _ _ (p .most-high) (p .most-low) (p .counts)
-
-crossed-requires : tie.Need-crossed-requires Inv-loop μ-loop
-crossed-requires c κs =
-    let p = start (c .before) .pre in
-    (p .first-in, p .second-in, omega (arith, p .whole, p .fit, c .loop-test .taken), p .size, p .second-some)
-
-ones-requires : tie.Need-ones-requires Inv-loop μ-loop
-ones-requires c κs = tt
-
--- it is the block's tally
-counts : (c : tie.After-ones Inv-loop μ-loop)
-    → let l = c .before .before .before in
-    c .ones .result ≡ tallies (start l) (l .loop .w)
-counts c = c .ones .ensures .0 ∙ ap ones (c .before .crossed .ensures)
-
-add-counted : tie.Need-add-counted Inv-loop μ-loop
-add-counted c = omega (arith, c .before .before .before .loop .inv .tallying .few, c .ones .ensures .1, start (c .before .before .before) .pre .whole, start (c .before .before .before) .pre .fit)
-
-mul-size : tie.Need-mul-size Inv-loop μ-loop
-mul-size c = search needs
-
-shared-slice-read-size : tie.Need-shared-slice-read-size Inv-loop μ-loop
-shared-slice-read-size c = c .before .before .before .loop-test .taken
-
-cast-size : tie.Need-cast-size Inv-loop μ-loop
-cast-size c = omega (arith, c .shared-slice-known4 .given (c .before .before .before .before .loop .w))
-
-add-w : tie.Need-add-w Inv-loop μ-loop
-add-w c = search needs
-
--- where a group ends
-module _ (c : tie.Then1 Inv-loop μ-loop) where
-  abbrev o : tie.After-ones Inv-loop μ-loop
-  o = c .before .before
-
-  abbrev l : tie.At-loop Inv-loop μ-loop
-  l = o .before .before .before
-
-  abbrev s : tie.Start Inv-loop μ-loop
-  s = start l
-
-  abbrev ends : List ℕ
-  ends = s .args .ends .now
-
-  abbrev size : ℕ
-  size = getD ends (l .loop .w) 0
-
-  here : l .loop .w < length ends
-  here = o .before .before .loop-test .taken
-
-  -- its members are as many
-  high : l .loop .counted + o .ones .result ≤ size
-  high = ends-high ends (tallies s) (l .loop .gain) (l .loop .counted) (l .loop .w) (o .ones .result) here (counts o) (l .loop .inv .tallying) (c .if1 .taken)
-
-  -- what is counted is low
-  low : l .loop .gain + splits (l .loop .counted + o .ones .result) size ≤ maxGain
-  low =
-      omega (
-        arith,
-        ends-low ends (tallies s) (l .loop .gain) (l .loop .counted) (l .loop .w) (o .ones .result) here (counts o) (l .loop .inv .tallying) (c .if1 .taken),
-        gain-whole (s .args .columns .now) ends (length (s .args .rests .now)) (s .args .i) (s .args .j),
-        s .pre .low,
-      )
-
-  -- the groups left
-  next : Hoping ends (tallies s) (s .args .most - mostOf ends) (l .loop .gain + splits (l .loop .counted + o .ones .result) size) 0 (l .loop .room - size * size / 4) (l .loop .w + 1)
-  next = hoping-end ends (tallies s) (s .args .most - mostOf ends) (l .loop .gain) (l .loop .counted) (l .loop .room) (l .loop .w) (o .ones .result) here (counts o) (l .loop .inv) (c .if1 .taken)
-
-sub-gain : tie.Need-sub-gain Inv-loop μ-loop
-sub-gain c = high c
-
-mul-gain : tie.Need-mul-gain Inv-loop μ-loop
-mul-gain c = omega (arith, low c)
-
-add-gain : tie.Need-add-gain Inv-loop μ-loop
-add-gain c = omega (arith, low c)
-
-mul-room : tie.Need-mul-room Inv-loop μ-loop
-mul-room c =
-    let h : size c < 65536 = omega (arith, c .before .shared-slice-known4 .given (l c .loop .w)) in
-    omega (arith, square-low (size c) h)
-
-sub-room : tie.Need-sub-room Inv-loop μ-loop
-sub-room c = room-here _ _ _ _ _ _ _ _ (here c) (counts (o c)) (l c .loop .inv)
-
-add-if2 : tie.Need-add-if2 Inv-loop μ-loop
-add-if2 c = omega (arith, low c, next c .low)
-
-returns : tie.Need-returns Inv-loop μ-loop
+returns : tie.Need-returns
 returns c =
-    let t = c .before in
-    let s = start (l t) in
+    let s = c .before .before .before .before .before in
     let a = s .args in
     let sum = gain-sum (a .columns .now) (a .ends .now) (length (a .rests .now)) (a .i) (a .j) _ _ refl refl in
-    let less = hopeless _ _ _ _ _ _ _ _ (here t) (counts (o t)) (l t .loop .inv) (t .if1 .taken) _ (c .if2 .taken) in
-    judges-none _ _ (omega (arith, less, sheet-low _ _ _ _ _ _ (s .pre), sum))
+    judges-none _ _ (omega (arith, c .before .whole .ensures .low (c .if1 .taken), sheet-low _ _ _ _ _ _ (s .pre), sum))
 
-loop-less : tie.Need-loop-less Inv-loop μ-loop
-loop-less c = search needs
+paired-requires : tie.Need-paired-requires
+paired-requires c κs = sheet-pairs _ _ _ _ _ _ (c .before .before .before .before .before .pre) _ (c .before .whole .ensures .is (c .if1 .left))
 
-loop-again : tie.Need-loop-again Inv-loop μ-loop
-loop-again c = next (c .before)
-
-loop-less-2 : tie.Need-loop-less-2 Inv-loop μ-loop
-loop-less-2 c = search needs
-
-loop-again-2 : tie.Need-loop-again-2 Inv-loop μ-loop
-loop-again-2 c =
-    let o = c .before .before in
-    let l = o .before .before .before in
-    hoping-on _ _ _ _ _ _ _ _ (o .before .before .loop-test .taken) (counts o) (l .loop .inv) (c .if1 .left) (o .ones .ensures .1)
-
--- what all large groups tell apart
-whole : (c : tie.After-loop Inv-loop μ-loop) → c .before .loop .gain ≡ wholeGain (start (c .before) .args .ends .now) (tallies (start (c .before))) 0 0
-whole c = tallying-all _ _ _ _ _ (c .loop-test .left) (c .before .loop .inv .tallying)
-
-paired-requires : tie.Need-paired-requires Inv-loop μ-loop
-paired-requires c κs = sheet-pairs _ _ _ _ _ _ (start (c .before) .pre) _ (whole c)
-
-returns-2 : tie.Need-returns-2 Inv-loop μ-loop
+returns-2 : tie.Need-returns-2
 returns-2 c =
-    let a = start (c .before .before) .args in
-    let e = gain-sum (a .columns .now) (a .ends .now) (length (a .rests .now)) (a .i) (a .j) _ _ (whole (c .before)) refl in
+    let a = c .before .before .before .before .before .before .args in
+    let e = gain-sum (a .columns .now) (a .ends .now) (length (a .rests .now)) (a .i) (a .j) _ _ (c .before .before .whole .ensures .is (c .before .if1 .left)) refl in
     subst (λ (m : ℕ). Judges m (a .beat) (c .paired .result)) e (c .paired .ensures)
 
 pub gain-spec : {M : Type 1} → statement M
 gain-spec =
     tie.close
     (tie.spec
-    Inv-loop
-    μ-loop
-    loop-holds
-    crossed-requires
-    ones-requires
-    add-counted
-    mul-size
-    shared-slice-read-size
-    cast-size
-    add-w
-    sub-gain
-    mul-gain
-    add-gain
-    mul-room
-    sub-room
-    add-if2
+    whole-requires
     returns
-    loop-less
-    loop-again
-    loop-less-2
-    loop-again-2
     paired-requires
     returns-2)

@@ -5,18 +5,6 @@ use Rattle.choice.proofs.Counting.Three.{three}
 use Rattle.choice.proofs.judge.ones_of_three.Statement.{statement}
 use Rattle.choice.proofs.judge.ones_of_three.Tie as tie
 
-ones-requires : tie.Need-ones-requires
-ones-requires c κs = search needs
-
-ones-requires-2 : tie.Need-ones-requires-2
-ones-requires-2 c κs = search needs
-
-mul-result : tie.Need-mul-result
-mul-result c = search needs
-
-add-result : tie.Need-add-result
-add-result c = search needs
-
 returns : tie.Need-returns
 returns c =
     let s = c .before .before in
@@ -26,4 +14,9 @@ returns c =
 
 pub ones-of-three-spec : {M : Type 1} → statement M
 ones-of-three-spec =
-    tie.close (tie.spec ones-requires ones-requires-2 mul-result add-result returns)
+    tie.close (tie.spec
+    (λ c κs. search needs)
+    (λ c κs. search needs)
+    (λ c. search needs)
+    (λ c. search needs)
+    returns)

@@ -31,12 +31,6 @@ loop-holds c = pairing-start _ _ _ _ _ _ (c .before .before .pre)
 add-loop : tie.Need-add-loop Inv-loop μ-loop Inv-loop2 μ-loop2
 add-loop c = let p = c .loop .inv .pairs in omega (arith, p .within, p .fit)
 
-mul-if1 : tie.Need-mul-if1 Inv-loop μ-loop Inv-loop2 μ-loop2
-mul-if1 c = search needs
-
-shared-slice-read-if1 : tie.Need-shared-slice-read-if1 Inv-loop μ-loop Inv-loop2 μ-loop2
-shared-slice-read-if1 c = search needs
-
 add-if1 : tie.Need-add-if1 Inv-loop μ-loop Inv-loop2 μ-loop2
 add-if1 c = let l = c .before .before .loop in omega (arith, rest-low _ _ _ _ _ _ (l .gain) (l .w) (l .inv) (omega arith))
 
@@ -50,24 +44,15 @@ crossed-requires c κs =
     let l = c .before .before .before .loop in
     pairing-cross _ _ _ _ _ _ (l .gain) (l .w) (l .inv) _ (omega arith)
 
-add-crossed : tie.Need-add-crossed Inv-loop μ-loop Inv-loop2 μ-loop2
-add-crossed c = search needs
-
 crossed-requires-2 : tie.Need-crossed-requires-2 Inv-loop μ-loop Inv-loop2 μ-loop2
 crossed-requires-2 c κs =
     let l = c .before .before .before .before .loop in
     pairing-cross _ _ _ _ _ _ (l .gain) (l .w) (l .inv) _ (omega arith)
 
-add-crossed-2 : tie.Need-add-crossed-2 Inv-loop μ-loop Inv-loop2 μ-loop2
-add-crossed-2 c = search needs
-
 crossed-requires-3 : tie.Need-crossed-requires-3 Inv-loop μ-loop Inv-loop2 μ-loop2
 crossed-requires-3 c κs =
     let l = c .before .before .before .before .before .loop in
     pairing-cross _ _ _ _ _ _ (l .gain) (l .w) (l .inv) _ (omega arith)
-
-ones-of-three-requires : tie.Need-ones-of-three-requires Inv-loop μ-loop Inv-loop2 μ-loop2
-ones-of-three-requires c κs = tt
 
 counts : (c : tie.After-ones-of-three Inv-loop μ-loop Inv-loop2 μ-loop2)
     → let l = c .before .before .before .before .before .before .before in
@@ -82,12 +67,6 @@ add-gain c =
     let l = c .before .before .before .before .before .before .before .loop in
     omega (arith, pairing-low _ _ _ _ _ _ (l .gain) (l .w) (l .inv) 3 _ (omega arith) (counts c))
 
-add-w : tie.Need-add-w Inv-loop μ-loop Inv-loop2 μ-loop2
-add-w c = search needs
-
-loop-less : tie.Need-loop-less Inv-loop μ-loop Inv-loop2 μ-loop2
-loop-less c = search needs
-
 loop-again : tie.Need-loop-again Inv-loop μ-loop Inv-loop2 μ-loop2
 loop-again c =
     let l = c .before .before .before .before .before .before .before .loop in
@@ -97,12 +76,6 @@ loop-again c =
 
 loop2-holds : tie.Need-loop2-holds Inv-loop μ-loop Inv-loop2 μ-loop2
 loop2-holds c = c .before .loop .inv
-
-mul-if2 : tie.Need-mul-if2 Inv-loop μ-loop Inv-loop2 μ-loop2
-mul-if2 c = search needs
-
-shared-slice-read-if2 : tie.Need-shared-slice-read-if2 Inv-loop μ-loop Inv-loop2 μ-loop2
-shared-slice-read-if2 c = search needs
 
 add-if2 : tie.Need-add-if2 Inv-loop μ-loop Inv-loop2 μ-loop2
 add-if2 c = let l = c .before .before .loop2 in omega (arith, rest-low _ _ _ _ _ _ (l .gain) (l .w) (l .inv) (c .before .loop2-test .taken))
@@ -117,9 +90,6 @@ crossed-requires-4 c κs =
     let l = c .before .before .before .loop2 in
     pairing-cross _ _ _ _ _ _ (l .gain) (l .w) (l .inv) _ (c .before .before .loop2-test .taken)
 
-ones-requires : tie.Need-ones-requires Inv-loop μ-loop Inv-loop2 μ-loop2
-ones-requires c κs = tt
-
 count : (c : tie.After-ones Inv-loop μ-loop Inv-loop2 μ-loop2)
     → let l = c .before .before .before .before .before in
     let a = l .before .before .before .before .before .args in
@@ -130,12 +100,6 @@ add-gain-2 : tie.Need-add-gain-2 Inv-loop μ-loop Inv-loop2 μ-loop2
 add-gain-2 c =
     let l = c .before .before .before .before .before .loop2 in
     omega (arith, pairing-low _ _ _ _ _ _ (l .gain) (l .w) (l .inv) 1 _ (omega arith) (count c))
-
-add-w-2 : tie.Need-add-w-2 Inv-loop μ-loop Inv-loop2 μ-loop2
-add-w-2 c = search needs
-
-loop2-less : tie.Need-loop2-less Inv-loop μ-loop Inv-loop2 μ-loop2
-loop2-less c = search needs
 
 loop2-again : tie.Need-loop2-again Inv-loop μ-loop Inv-loop2 μ-loop2
 loop2-again c =
@@ -155,29 +119,29 @@ paired-spec =
     μ-loop2
     loop-holds
     add-loop
-    mul-if1
-    shared-slice-read-if1
+    (λ c. search needs)
+    (λ c. search needs)
     add-if1
     returns
     crossed-requires
-    add-crossed
+    (λ c. search needs)
     crossed-requires-2
-    add-crossed-2
+    (λ c. search needs)
     crossed-requires-3
-    ones-of-three-requires
+    (λ c κs. tt)
     add-gain
-    add-w
-    loop-less
+    (λ c. search needs)
+    (λ c. search needs)
     loop-again
     loop2-holds
-    mul-if2
-    shared-slice-read-if2
+    (λ c. search needs)
+    (λ c. search needs)
     add-if2
     returns-2
     crossed-requires-4
-    ones-requires
+    (λ c κs. tt)
     add-gain-2
-    add-w-2
-    loop2-less
+    (λ c. search needs)
+    (λ c. search needs)
     loop2-again
     returns-3)

@@ -27,9 +27,6 @@ low c =
     let p = s .pre .0 in
     omega (arith, p .1, halves-low (s .args .sizes .now) (omega (arith, p .0 .sum, p .0 .few)))
 
-lay-whole-requires : tie.Need-lay-whole-requires
-lay-whole-requires c κs = search needs
-
 -- what a list begins with is no longer than it
 prefix : (r : ℕ) (l m : List ℕ) → take r l ≡ m → r ≡ length m → r ≤ length l
 prefix r l m e q = omega (arith, ap length e, length-take r l)
@@ -50,9 +47,6 @@ sub-small c =
     let w = c .before .before .before .before .before .before in
     omega (arith, c .most .ensures, ap mostOf (w .lay-whole .ensures .ends-are), parts w)
 
-mul-lay-pairs : tie.Need-mul-lay-pairs
-mul-lay-pairs c = search needs
-
 lay-pairs-requires : tie.Need-lay-pairs-requires
 lay-pairs-requires c κs =
     let l = c .before .before .before .before .before .before .before .before in
@@ -61,24 +55,6 @@ lay-pairs-requires c κs =
       p .0 .0,
       ((w .size, w .items-are, ap (λ k. 64 * k) (w .whole-is) ∙ sym (whole-length _)), (p .1 .2, omega (arith, c .before .before .most .ensures, ap mostOf (w .ends-are), parts l))),
     )
-
-add-zero : tie.Need-add-zero
-add-zero c = search needs
-
-mul-zero : tie.Need-mul-zero
-mul-zero c = search needs
-
-zero-requires : tie.Need-zero-requires
-zero-requires c κs = search needs
-
-same-length : tie.Need-same-length
-same-length c = search needs
-
-same-length-2 : tie.Need-same-length-2
-same-length-2 c = search needs
-
-same-length-3 : tie.Need-same-length-3
-same-length-3 c = search needs
 
 returns : tie.Need-returns
 returns c =
@@ -89,17 +65,17 @@ pub lay-spec : {M : Type 1} → statement M
 lay-spec =
     tie.close
     (tie.spec
-    lay-whole-requires
+    (λ c κs. search needs)
     slice-reshare-prefix-most
     slice-aggregate-most
     most-requires
     sub-small
-    mul-lay-pairs
+    (λ c. search needs)
     lay-pairs-requires
-    add-zero
-    mul-zero
-    zero-requires
-    same-length
-    same-length-2
-    same-length-3
+    (λ c. search needs)
+    (λ c. search needs)
+    (λ c κs. search needs)
+    (λ c. search needs)
+    (λ c. search needs)
+    (λ c. search needs)
     returns)

@@ -40,29 +40,11 @@ loop-holds c =
     let p = s .pre .1 in
     adding-none _ _ _ _ _ _ (s .pre .0 .sum) (p .0 .1) (p .0 .2) (omega (arith, p .0 .2, whole-room (s .pre .0))) (p .1 .0) (p .1 .1)
 
-mul-s : tie.Need-mul-s Inv-loop μ-loop
-mul-s c = search needs
-
-shared-slice-read-s : tie.Need-shared-slice-read-s Inv-loop μ-loop
-shared-slice-read-s c = search needs
-
 cast-from : tie.Need-cast-from Inv-loop μ-loop
 cast-from c = omega (arith, c .shared-slice-known3 .given (c .before .before .loop .g))
 
 add-from : tie.Need-add-from Inv-loop μ-loop
 add-from c = omega (arith, to (c .before), c .before .before .before .before .before .before .before .pre .0 .few)
-
-add-g : tie.Need-add-g Inv-loop μ-loop
-add-g c = search needs
-
-mul-pairs : tie.Need-mul-pairs Inv-loop μ-loop
-mul-pairs c = search needs
-
-sub-pairs : tie.Need-sub-pairs Inv-loop μ-loop
-sub-pairs c = search needs
-
-part-pairs-start : tie.Need-part-pairs-start Inv-loop μ-loop
-part-pairs-start c = search needs
 
 part-pairs-end : tie.Need-part-pairs-end Inv-loop μ-loop
 part-pairs-end c = to (c .before .before)
@@ -96,17 +78,11 @@ reached c =
     let e = c .before .before .before .pairs .ensures in
     adding-block _ _ _ _ _ _ _ _ _ _ (l .loop .inv) 0 (c .before .before .before .before .before .before .before .before .loop-test .taken) (c .before .before .before .before .before .before .if1 .taken) (room s) _ _ (e .0) (e .1) (c .if2 .taken) (s .pre .1 .0 .0)
 
-mul-rests : tie.Need-mul-rests Inv-loop μ-loop
-mul-rests c = search needs
-
 slice-write-rests : tie.Need-slice-write-rests Inv-loop μ-loop
 slice-write-rests c = omega (arith, reached c, c .before .before .before .before .before .before .before .before .before .loop .inv .bounds .size)
 
 add-b : tie.Need-add-b Inv-loop μ-loop
 add-b c = omega (arith, reached c)
-
-loop-less : tie.Need-loop-less Inv-loop μ-loop
-loop-less c = search needs
 
 loop-again : tie.Need-loop-again Inv-loop μ-loop
 loop-again c =
@@ -115,18 +91,12 @@ loop-again c =
     let e = c .before .before .before .pairs .ensures in
     adding-next _ _ _ _ _ _ _ _ _ _ (l .loop .inv) 0 (c .before .before .before .before .before .before .before .before .loop-test .taken) (c .before .before .before .before .before .before .if1 .taken) (room s) _ _ (e .0) (e .1) (c .if2 .taken) (s .pre .1 .0 .0)
 
-loop-less-2 : tie.Need-loop-less-2 Inv-loop μ-loop
-loop-less-2 c = search needs
-
 loop-again-2 : tie.Need-loop-again-2 Inv-loop μ-loop
 loop-again-2 c =
     let l = c .before .before .before .before .before .before .before .before .before in
     let s = l .before .before .before .before .before in
     let e = c .before .before .before .pairs .ensures in
     adding-within _ _ _ _ _ _ _ _ _ _ (l .loop .inv) 0 (c .before .before .before .before .before .before .before .before .loop-test .taken) (c .before .before .before .before .before .before .if1 .taken) (room s) _ _ (e .0) (e .1) (c .if2 .left)
-
-loop-less-3 : tie.Need-loop-less-3 Inv-loop μ-loop
-loop-less-3 c = search needs
 
 loop-again-3 : tie.Need-loop-again-3 Inv-loop μ-loop
 loop-again-3 c = let l = c .before .before .before in adding-large _ _ _ _ _ _ _ _ _ _ (l .loop .inv) 0 (c .before .before .loop-test .taken) (c .if1 .left)
@@ -157,28 +127,28 @@ lay-pairs-spec =
     Inv-loop
     μ-loop
     loop-holds
-    mul-s
-    shared-slice-read-s
+    (λ c. search needs)
+    (λ c. search needs)
     cast-from
     add-from
-    add-g
-    mul-pairs
-    sub-pairs
-    part-pairs-start
+    (λ c. search needs)
+    (λ c. search needs)
+    (λ c. search needs)
+    (λ c. search needs)
     part-pairs-end
     pairs-requires
     mul-left
     cast-left
     sub-left
     mul-if2
-    mul-rests
+    (λ c. search needs)
     slice-write-rests
     add-b
-    loop-less
+    (λ c. search needs)
     loop-again
-    loop-less-2
+    (λ c. search needs)
     loop-again-2
-    loop-less-3
+    (λ c. search needs)
     loop-again-3
     same-length
     same-length-2

@@ -76,32 +76,14 @@ zeroed c = copied (c .before .before .before .before)
 loop-holds : tie.Need-loop-holds Inv-loop μ-loop
 loop-holds c = let s = c .before .before .before .before in laying-none _ _ _ _ _ (s .pre .0 .sum) (s .pre .1 .1)
 
-mul-s : tie.Need-mul-s Inv-loop μ-loop
-mul-s c = search needs
-
-shared-slice-read-s : tie.Need-shared-slice-read-s Inv-loop μ-loop
-shared-slice-read-s c = search needs
-
 cast-size : tie.Need-cast-size Inv-loop μ-loop
 cast-size c = omega (arith, c .shared-slice-known3 .given (c .before .before .loop .g))
 
 add-from : tie.Need-add-from Inv-loop μ-loop
 add-from c = omega (arith, to (c .before), c .before .before .before .before .before .before .before .pre .0 .few)
 
-add-g : tie.Need-add-g Inv-loop μ-loop
-add-g c = search needs
-
 mul-at : tie.Need-mul-at Inv-loop μ-loop
 mul-at c = omega (arith, part c, items-long c)
-
-mul-xored : tie.Need-mul-xored Inv-loop μ-loop
-mul-xored c = search needs
-
-sub-xored : tie.Need-sub-xored Inv-loop μ-loop
-sub-xored c = search needs
-
-part-xored-start : tie.Need-part-xored-start Inv-loop μ-loop
-part-xored-start c = search needs
 
 part-xored-end : tie.Need-part-xored-end Inv-loop μ-loop
 part-xored-end c = to (c .before .before)
@@ -135,9 +117,6 @@ mul-ends c = omega (arith, ends-fit (zeroed c))
 slice-write-ends : tie.Need-slice-write-ends Inv-loop μ-loop
 slice-write-ends c = omega (arith, ends-fit (zeroed c), ends-long (zeroed c), zeroed c .if1 .taken)
 
-loop-less : tie.Need-loop-less Inv-loop μ-loop
-loop-less c = search needs
-
 loop-again : tie.Need-loop-again Inv-loop μ-loop
 loop-again c =
     let t = zeroed c in
@@ -145,9 +124,6 @@ loop-again c =
     let s = l .before .before .before .before .before in
     laying-large _ _ _ _ (l .loop .items) (l .loop .ends) (l .loop .whole) (l .loop .from) (l .loop .g) (l .loop .inv) 0 (t .before .before .loop-test .taken) (t .if1 .taken) (room s)
     (ends-room (s .pre .0)) _ _ (c .before .before .before .before .before .before .xored .ensures) (c .before .before .zero .ensures)
-
-loop-less-2 : tie.Need-loop-less-2 Inv-loop μ-loop
-loop-less-2 c = search needs
 
 loop-again-2 : tie.Need-loop-again-2 Inv-loop μ-loop
 loop-again-2 c =
@@ -180,15 +156,15 @@ lay-whole-spec =
     Inv-loop
     μ-loop
     loop-holds
-    mul-s
-    shared-slice-read-s
+    (λ c. search needs)
+    (λ c. search needs)
     cast-size
     add-from
-    add-g
+    (λ c. search needs)
     mul-at
-    mul-xored
-    sub-xored
-    part-xored-start
+    (λ c. search needs)
+    (λ c. search needs)
+    (λ c. search needs)
     part-xored-end
     xored-requires
     add-whole
@@ -199,9 +175,9 @@ lay-whole-spec =
     sub-ends
     mul-ends
     slice-write-ends
-    loop-less
+    (λ c. search needs)
     loop-again
-    loop-less-2
+    (λ c. search needs)
     loop-again-2
     same-length
     same-length-2

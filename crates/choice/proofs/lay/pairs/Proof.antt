@@ -16,43 +16,16 @@ abbrev μ-loop : tie.MeasureT-loop
 loop-holds : tie.Need-loop-holds Inv-loop μ-loop
 loop-holds c = pairing-none _ _ _
 
-mul-x : tie.Need-mul-x Inv-loop μ-loop
-mul-x c = search needs
-
-shared-slice-read-x : tie.Need-shared-slice-read-x Inv-loop μ-loop
-shared-slice-read-x c = search needs
-
-add-i : tie.Need-add-i Inv-loop μ-loop
-add-i c = search needs
-
-mul-xored : tie.Need-mul-xored Inv-loop μ-loop
-mul-xored c = search needs
-
-sub-xored : tie.Need-sub-xored Inv-loop μ-loop
-sub-xored c = search needs
-
-part-xored-start : tie.Need-part-xored-start Inv-loop μ-loop
-part-xored-start c = search needs
-
-part-xored-end : tie.Need-part-xored-end Inv-loop μ-loop
-part-xored-end c = search needs
-
 xored-requires : tie.Need-xored-requires Inv-loop μ-loop
 xored-requires c κs =
     let l = c .before .before .before .before in
     pairing-part _ _ _ 0 (l .loop .out) (l .loop .w) (l .loop .i) (c .before .before .before .loop-test .taken) (l .loop .inv) (l .before .before .before .pre)
-
-sub-w : tie.Need-sub-w Inv-loop μ-loop
-sub-w c = search needs
 
 add-w : tie.Need-add-w Inv-loop μ-loop
 add-w c =
     let l = c .before .before .before .before .before .before .before in
     let s = l .before .before .before in
     omega (arith, pairing-room _ _ _ 0 (l .loop .out) (l .loop .w) (l .loop .i) (c .before .before .before .before .before .before .loop-test .taken) (l .loop .inv) (s .pre), l .loop .inv .size, s .good .1 .0)
-
-loop-less : tie.Need-loop-less Inv-loop μ-loop
-loop-less c = search needs
 
 loop-again : tie.Need-loop-again Inv-loop μ-loop
 loop-again c =
@@ -72,17 +45,17 @@ pairs-spec =
     Inv-loop
     μ-loop
     loop-holds
-    mul-x
-    shared-slice-read-x
-    add-i
-    mul-xored
-    sub-xored
-    part-xored-start
-    part-xored-end
+    (λ c. search needs)
+    (λ c. search needs)
+    (λ c. search needs)
+    (λ c. search needs)
+    (λ c. search needs)
+    (λ c. search needs)
+    (λ c. search needs)
     xored-requires
-    sub-w
+    (λ c. search needs)
     add-w
-    loop-less
+    (λ c. search needs)
     loop-again
     same-length
     returns)

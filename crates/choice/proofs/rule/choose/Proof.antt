@@ -58,9 +58,6 @@ gathered c =
     let o = length-take-le _ (turn c .loop .groups .order) (turn c .loop .inv .2 .shape .room) in
     rw o at (c .gather .ensures)
 
-blank-variables-requires : tie.Need-blank-variables-requires Inv-loop μ-loop
-blank-variables-requires c κs = search needs
-
 all-requires : tie.Need-all-requires Inv-loop μ-loop
 all-requires c κs = c .before .before .pre .2
 
@@ -71,14 +68,8 @@ loop-holds c =
 returns : tie.Need-returns Inv-loop μ-loop
 returns c = stage-stop _ _ (c .before .before .before .loop .inv .2) (c .if1 .taken)
 
-array-share-prefix-order : tie.Need-array-share-prefix-order Inv-loop μ-loop
-array-share-prefix-order c = search needs
-
 slice-aggregate-gather : tie.Need-slice-aggregate-gather Inv-loop μ-loop
 slice-aggregate-gather c = sym (length-take-le _ _ (c .before .before .before .before .before .before .loop .inv .2 .shape .room))
-
-slice-aggregate-gather-2 : tie.Need-slice-aggregate-gather-2 Inv-loop μ-loop
-slice-aggregate-gather-2 c = search needs
 
 gather-requires : tie.Need-gather-requires Inv-loop μ-loop
 gather-requires c κs =
@@ -91,14 +82,8 @@ array-share-prefix-words c = room (c .before)
 slice-aggregate-best : tie.Need-slice-aggregate-best Inv-loop μ-loop
 slice-aggregate-best c = sym (length-take-le _ _ (room (c .before .before)))
 
-array-share-prefix-sizes : tie.Need-array-share-prefix-sizes Inv-loop μ-loop
-array-share-prefix-sizes c = search needs
-
 slice-aggregate-best-2 : tie.Need-slice-aggregate-best-2 Inv-loop μ-loop
 slice-aggregate-best-2 c = sym (length-take-le _ _ (turn (c .before .before .before) .loop .inv .2 .shape .places))
-
-slice-aggregate-best-3 : tie.Need-slice-aggregate-best-3 Inv-loop μ-loop
-slice-aggregate-best-3 c = search needs
 
 best-requires : tie.Need-best-requires Inv-loop μ-loop
 best-requires c κs =
@@ -106,28 +91,10 @@ best-requires c κs =
     let l = turn g .loop in
     ((searched g, rw (gathered g) (ties-words _ _ (sizesOf (l .groups)) (orderOf (l .groups)) (l .inv .3))), l .inv .1)
 
-mask-requires : tie.Need-mask-requires Inv-loop μ-loop
-mask-requires c κs = search needs
-
 refined-requires : tie.Need-refined-requires Inv-loop μ-loop
 refined-requires c κs =
     let l = turn (c .before .before .before .before .before .before .before) in
     (start l .pre .2, l .loop .inv .2 .shape)
-
-later-requires : tie.Need-later-requires Inv-loop μ-loop
-later-requires c κs = search needs
-
-mul-variables : tie.Need-mul-variables Inv-loop μ-loop
-mul-variables c = search needs
-
-array-set-from-variables : tie.Need-array-set-from-variables Inv-loop μ-loop
-array-set-from-variables c = search needs
-
-add-p : tie.Need-add-p Inv-loop μ-loop
-add-p c = search needs
-
-loop-less : tie.Need-loop-less Inv-loop μ-loop
-loop-less c = search needs
 
 loop-again : tie.Need-loop-again Inv-loop μ-loop
 loop-again c =
@@ -154,26 +121,26 @@ choose-spec =
     (tie.spec
     Inv-loop
     μ-loop
-    blank-variables-requires
+    (λ c κs. search needs)
     all-requires
     loop-holds
     returns
-    array-share-prefix-order
+    (λ c. search needs)
     slice-aggregate-gather
-    slice-aggregate-gather-2
+    (λ c. search needs)
     gather-requires
     array-share-prefix-words
     slice-aggregate-best
-    array-share-prefix-sizes
+    (λ c. search needs)
     slice-aggregate-best-2
-    slice-aggregate-best-3
+    (λ c. search needs)
     best-requires
-    mask-requires
+    (λ c κs. search needs)
     refined-requires
-    later-requires
-    mul-variables
-    array-set-from-variables
-    add-p
-    loop-less
+    (λ c κs. search needs)
+    (λ c. search needs)
+    (λ c. search needs)
+    (λ c. search needs)
+    (λ c. search needs)
     loop-again
     returns-2)

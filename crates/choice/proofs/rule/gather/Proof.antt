@@ -22,12 +22,6 @@ low c =
 loop-holds : tie.Need-loop-holds Inv-loop μ-loop
 loop-holds c = gathered-none _ _ _
 
-mul-words : tie.Need-mul-words Inv-loop μ-loop
-mul-words c = search needs
-
-shared-slice-read-words : tie.Need-shared-slice-read-words Inv-loop μ-loop
-shared-slice-read-words c = search needs
-
 cast-words : tie.Need-cast-words Inv-loop μ-loop
 cast-words c = omega (arith, low (c .before), c .before .before .before .good .0)
 
@@ -37,24 +31,9 @@ mul-words-2 c = omega (arith, low (c .before), c .before .before .before .good .
 shared-slice-read-words-2 : tie.Need-shared-slice-read-words-2 Inv-loop μ-loop
 shared-slice-read-words-2 c = low (c .before .before)
 
-mul-words-3 : tie.Need-mul-words-3 Inv-loop μ-loop
-mul-words-3 c = search needs
-
-slice-write-words : tie.Need-slice-write-words Inv-loop μ-loop
-slice-write-words c = search needs
-
-add-i : tie.Need-add-i Inv-loop μ-loop
-add-i c = search needs
-
-loop-less : tie.Need-loop-less Inv-loop μ-loop
-loop-less c = search needs
-
 loop-again : tie.Need-loop-again Inv-loop μ-loop
 loop-again c =
     gathered-more _ _ _ 0 _ _ (c .before .before .loop-test .taken) (c .before .before .before .before .pre .1) (c .before .before .before .loop .inv)
-
-same-length : tie.Need-same-length Inv-loop μ-loop
-same-length c = search needs
 
 returns : tie.Need-returns Inv-loop μ-loop
 returns c = gathered-end _ _ _ _ _ (c .loop-test .left) (c .before .loop .inv)
@@ -66,15 +45,15 @@ gather-spec =
     Inv-loop
     μ-loop
     loop-holds
-    mul-words
-    shared-slice-read-words
+    (λ c. search needs)
+    (λ c. search needs)
     cast-words
     mul-words-2
     shared-slice-read-words-2
-    mul-words-3
-    slice-write-words
-    add-i
-    loop-less
+    (λ c. search needs)
+    (λ c. search needs)
+    (λ c. search needs)
+    (λ c. search needs)
     loop-again
-    same-length
+    (λ c. search needs)
     returns)

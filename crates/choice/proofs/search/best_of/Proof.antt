@@ -10,20 +10,20 @@ use Rattle.vectors.specs.Variable.{earlier, later, faulty}
 use Rattle.choice.specs.Choice.{candidates, bestOf}
 use Rattle.choice.specs.declared.search.Best.{Best}
 use Rattle.choice.specs.Inner.Judged.{maxGain, gainAt, leftBy}
-use Rattle.choice.specs.Inner.Search.{bestRows, noneBest}
+use Rattle.choice.specs.Inner.Search.{bestLines, noneBest}
 use Rattle.choice.proofs.Choosing.Ties.{best-sound}
 use Rattle.choice.proofs.Searching.Best.{Going, going-start, going-more, going-end}
 use Rattle.choice.proofs.Searching.Order.{inputs-in, kind-one, kind-two}
-use Rattle.choice.proofs.Searching.Rows.{rows-few, rows-best}
+use Rattle.choice.proofs.Searching.Lines.{lines-few, lines-best}
 use Rattle.choice.proofs.search.best_of.Statement.{statement}
 use Rattle.choice.proofs.search.best_of.Tie as tie
 
 abbrev Inv-loop : tie.InvT-loop
-Inv-loop columns ends rests most n tied degree inputs rows b₀ i₀ b i =
-    Going (gainAt columns ends (length rests)) n (bestRows (gainAt columns ends (length rests)) n noneBest 0 rows) b rows i
+Inv-loop columns ends rests most n tied degree inputs lines b₀ i₀ b i =
+    Going (gainAt columns ends (length rests)) n (bestLines (gainAt columns ends (length rests)) n noneBest 0 lines) b lines i
 
 abbrev μ-loop : tie.MeasureT-loop
-μ-loop columns ends rests most n tied degree inputs rows b₀ i₀ b i = rows - i
+μ-loop columns ends rests most n tied degree inputs lines b₀ i₀ b i = lines - i
 
 abbrev start : tie.At-loop Inv-loop μ-loop → tie.Start Inv-loop μ-loop
 start l = l .before .before .before .before .before
@@ -31,34 +31,25 @@ start l = l .before .before .before .before .before
 abbrev gain : tie.Start Inv-loop μ-loop → ℕ → ℕ → ℕ
 gain s = gainAt (s .args .columns .now) (s .args .ends .now) (length (s .args .rests .now))
 
-rows-of-requires : tie.Need-rows-of-requires Inv-loop μ-loop
-rows-of-requires c κs = tt
-
 loop-holds : tie.Need-loop-holds Inv-loop μ-loop
-loop-holds c = let s = c .before .before .before .before in going-start (gain s) (s .args .n) (c .rows-of .result)
+loop-holds c = let s = c .before .before .before .before in going-start (gain s) (s .args .n) (c .lines-of .result)
 
--- there are no more rows than inputs
-rows-in : (l : tie.At-loop Inv-loop μ-loop) → l .before .rows-of .result ≤ start l .args .n
-rows-in l = omega (arith, l .before .rows-of .ensures, rows-few (start l .args .n) (start l .args .degree) (start l .pre .0 .0))
+-- there are no more lines than inputs
+lines-in : (l : tie.At-loop Inv-loop μ-loop) → l .before .lines-of .result ≤ start l .args .n
+lines-in l = omega (arith, l .before .lines-of .ensures, lines-few (start l .args .n) (start l .args .degree) (start l .pre .0 .0))
 
-best-row-requires : tie.Need-best-row-requires Inv-loop μ-loop
-best-row-requires c κs =
+best-line-requires : tie.Need-best-line-requires Inv-loop μ-loop
+best-line-requires c κs =
     let s = start (c .before) in
-    ((s .pre .0 .1, omega (arith, rows-in (c .before), c .loop-test .taken), s .pre .0 .2), (s .pre .1, c .before .loop .inv .high))
-
-add-i : tie.Need-add-i Inv-loop μ-loop
-add-i c = search needs
-
-loop-less : tie.Need-loop-less Inv-loop μ-loop
-loop-less c = search needs
+    ((s .pre .0 .1, omega (arith, lines-in (c .before), c .loop-test .taken), s .pre .0 .2), (s .pre .1, c .before .loop .inv .high))
 
 loop-again : tie.Need-loop-again Inv-loop μ-loop
 loop-again c =
     let l = c .before .before in
     let s = start l in
-    going-more (gain s) (s .args .n) (s .pre .0 .1) _ (l .loop .b) _ _ (l .loop .i) (c .before .loop-test .taken) (c .best-row .ensures) (l .loop .inv)
+    going-more (gain s) (s .args .n) (s .pre .0 .1) _ (l .loop .b) _ _ (l .loop .i) (c .before .loop-test .taken) (c .best-line .ensures) (l .loop .inv)
 
--- ---- after all rows
+-- ---- after all lines
 
 module _ (c : tie.After-loop Inv-loop μ-loop) where
   abbrev s : tie.Start Inv-loop μ-loop
@@ -74,8 +65,8 @@ module _ (c : tie.After-loop Inv-loop μ-loop) where
   known : (c .before .loop .b .i ≡ earlier goal) × (c .before .loop .b .j ≡ later goal)
   known =
       let e = going-end (gain s) (s .args .n) _ (c .before .loop .b) _ (c .before .loop .i) (c .loop-test .left) (c .before .loop .inv)
-      ∙ ap (bestRows (gain s) (s .args .n) noneBest 0) (c .before .before .rows-of .ensures)
-      ∙ rows-best (gain s) maxGain (s .args .n) (λ i j h l. s .pre .0 .2 i j h l .low) (s .args .n - 1) (omega (arith, s .pre .0 .0)) (s .args .degree) in
+      ∙ ap (bestLines (gain s) (s .args .n) noneBest 0) (c .before .before .lines-of .ensures)
+      ∙ lines-best (gain s) maxGain (s .args .n) (λ i j h l. s .pre .0 .2 i j h l .low) (s .args .n - 1) (omega (arith, s .pre .0 .0)) (s .args .degree) in
       (ap (λ (b : Best). b .i) e, ap (λ (b : Best). b .j) e)
 
   low : (c .before .loop .b .i < 256) × (c .before .loop .b .j < 256)
@@ -108,11 +99,11 @@ best-of-spec =
     (tie.spec
     Inv-loop
     μ-loop
-    rows-of-requires
+    (λ c κs. tt)
     loop-holds
-    best-row-requires
-    add-i
-    loop-less
+    best-line-requires
+    (λ c. search needs)
+    (λ c. search needs)
     loop-again
     cast-t15
     cast-t16

@@ -12,16 +12,10 @@ use Rattle.choice.proofs.search.better.Tie as tie
 abbrev gain : tie.Start → ℕ → ℕ → ℕ
 gain s = gainAt (s .args .columns .now) (s .args .ends .now) (length (s .args .rests .now))
 
-is-tied-requires : tie.Need-is-tied-requires
-is-tied-requires c κs = search needs
-
 returns : tie.Need-returns
 returns c =
     let s = c .before .before .before .before .before in
     better-old (gain s) (s .args .best) (s .args .i) (s .args .j) (s .pre .1 (eqb-true _ 1 (sym (c .before .«is-tied» .ensures) ∙ c .if1 .taken)))
-
-gain-requires : tie.Need-gain-requires
-gain-requires c κs = search needs
 
 returns-2 : tie.Need-returns-2
 returns-2 c =
@@ -34,4 +28,9 @@ returns-3 c =
     better-old (gain s) (s .args .best) (s .args .i) (s .args .j) (c .before .before .gain .ensures .below (c .if2 .left))
 
 pub better-spec : {M : Type 1} → statement M
-better-spec = tie.close (tie.spec is-tied-requires returns gain-requires returns-2 returns-3)
+better-spec = tie.close (tie.spec
+    (λ c κs. search needs)
+    returns
+    (λ c κs. search needs)
+    returns-2
+    returns-3)

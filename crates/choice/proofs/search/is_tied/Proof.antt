@@ -11,14 +11,12 @@ use Rattle.choice.proofs.search.is_tied.Tie as tie
 returns : tie.Need-returns
 returns c = rw (c .if1 .taken)
 
-sub-result : tie.Need-sub-result
-sub-result c = search needs
-
-shr-result : tie.Need-shr-result
-shr-result c = search needs
-
 returns-2 : tie.Need-returns-2
 returns-2 c = ap (λ (b : ℕ). eqb b 1) (input-bit (c .before .args .tied) (c .before .args .i) (omega arith))
 
 pub is-tied-spec : {M : Type 1} → statement M
-is-tied-spec = tie.close (tie.spec returns sub-result shr-result returns-2)
+is-tied-spec = tie.close (tie.spec
+    returns
+    (λ c. search needs)
+    (λ c. search needs)
+    returns-2)

@@ -44,23 +44,11 @@ digit-low c = let t = and-true (leb 48 (byte c)) (leb (byte c) 57) (digit-is c) 
 loop-holds : tie.Need-loop-holds Inv-loop μ-loop
 loop-holds c = digits-none _ _
 
-shared-slice-read-b : tie.Need-shared-slice-read-b Inv-loop μ-loop
-shared-slice-read-b c = search needs
-
-separator-requires : tie.Need-separator-requires Inv-loop μ-loop
-separator-requires c κs = search needs
-
-ended-requires : tie.Need-ended-requires Inv-loop μ-loop
-ended-requires c κs = search needs
-
 returns : tie.Need-returns Inv-loop μ-loop
 returns c =
     let l = c .before .before .before .before .before in
     c .ended .ensures
     ∙ sym (digits-end (l .loop .inv) (field-none _ (l .loop .i) 0 (c .before .before .before .before .loop-test .taken) (sym (c .before .before .separator .ensures) ∙ c .before .if1 .taken)))
-
-digit-requires : tie.Need-digit-requires Inv-loop μ-loop
-digit-requires c κs = search needs
 
 returns-2 : tie.Need-returns-2 Inv-loop μ-loop
 returns-2 c =
@@ -87,19 +75,10 @@ mul-value c = omega (arith, digit-low (c .before), c .if3 .left)
 add-value : tie.Need-add-value Inv-loop μ-loop
 add-value c = omega (arith, digit-low (c .before), c .if3 .left)
 
-add-i : tie.Need-add-i Inv-loop μ-loop
-add-i c = search needs
-
-loop-less : tie.Need-loop-less Inv-loop μ-loop
-loop-less c = search needs
-
 loop-again : tie.Need-loop-again Inv-loop μ-loop
 loop-again c =
     let b = c .before .before .before in
     digits-more (head b .loop .inv) 0 (inside b) (parted b) (digit-is (c .before)) (omega (arith, digit-low (c .before), c .if3 .left))
-
-ended-requires-2 : tie.Need-ended-requires-2 Inv-loop μ-loop
-ended-requires-2 c κs = search needs
 
 returns-4 : tie.Need-returns-4 Inv-loop μ-loop
 returns-4 c = c .ended2 .ensures ∙ sym (digits-end (c .before .before .loop .inv) (field-out _ (c .before .before .loop .i) (c .before .loop-test .left)))
@@ -111,11 +90,11 @@ number-at-spec =
     Inv-loop
     μ-loop
     loop-holds
-    shared-slice-read-b
-    separator-requires
-    ended-requires
+    (λ c. search needs)
+    (λ c κs. search needs)
+    (λ c κs. search needs)
     returns
-    digit-requires
+    (λ c κs. search needs)
     returns-2
     cast-d
     sub-d
@@ -123,8 +102,8 @@ number-at-spec =
     returns-3
     mul-value
     add-value
-    add-i
-    loop-less
+    (λ c. search needs)
+    (λ c. search needs)
     loop-again
-    ended-requires-2
+    (λ c κs. search needs)
     returns-4)

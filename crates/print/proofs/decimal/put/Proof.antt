@@ -15,9 +15,6 @@ Inv-loop n out₀ at end i₀ rest₀ out i rest = Spelling out₀ at n out i re
 abbrev μ-loop : tie.MeasureT-loop
 μ-loop n out₀ at end i₀ rest₀ out i rest = rest
 
-digits-requires : tie.Need-digits-requires Inv-loop μ-loop
-digits-requires c κs = search needs
-
 add-end : tie.Need-add-end Inv-loop μ-loop
 add-end c =
     let s = c .before .before in
@@ -79,7 +76,7 @@ put-spec =
     (tie.spec
     Inv-loop
     μ-loop
-    digits-requires
+    (λ c κs. search needs)
     add-end
     returns
     sub-i

@@ -33,31 +33,10 @@ held : (c : tie.After-magnitude) {at end : ℕ} {old out : List ℕ} → let n =
     → Written old at (space ∷ signed n) out end × (end ≤ at + 22)
 held c w = let s = c .before .before in (w, omega (arith, w .place, signed-low (s .args .n) (s .fits .n)))
 
-magnitude-requires : tie.Need-magnitude-requires
-magnitude-requires c κs = search needs
-
-slice-aggregate-bytes : tie.Need-slice-aggregate-bytes
-slice-aggregate-bytes c = search needs
-
-bytes-requires : tie.Need-bytes-requires
-bytes-requires c κs = search needs
-
-put-requires : tie.Need-put-requires
-put-requires c κs = search needs
-
-same-length : tie.Need-same-length
-same-length c = search needs
-
 returns : tie.Need-returns
 returns c =
     let b = c .before .before .before .before .before .before in
     held (b .before .before .before .before) (rw (sym (shown-below (b .before .before .before))) (written-more (b .bytes .ensures) (c .before .before .put .ensures)))
-
-field-requires : tie.Need-field-requires
-field-requires c κs = search needs
-
-same-length-2 : tie.Need-same-length-2
-same-length-2 c = search needs
 
 returns-2 : tie.Need-returns-2
 returns-2 c =
@@ -68,12 +47,12 @@ pub signed-field-spec : {M : Type 1} → statement M
 signed-field-spec =
     tie.close
     (tie.spec
-    magnitude-requires
-    slice-aggregate-bytes
-    bytes-requires
-    put-requires
-    same-length
+    (λ c κs. search needs)
+    (λ c. search needs)
+    (λ c κs. search needs)
+    (λ c κs. search needs)
+    (λ c. search needs)
     returns
-    field-requires
-    same-length-2
+    (λ c κs. search needs)
+    (λ c. search needs)
     returns-2)

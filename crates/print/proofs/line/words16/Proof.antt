@@ -14,17 +14,8 @@ Inv-loop name words out₀ at end₀ i₀ out end i = Filling out₀ end₀ word
 abbrev μ-loop : tie.MeasureT-loop
 μ-loop name words out₀ at end₀ i₀ out end i = length words - i
 
-bytes-requires : tie.Need-bytes-requires Inv-loop μ-loop
-bytes-requires c κs = search needs
-
 loop-holds : tie.Need-loop-holds Inv-loop μ-loop
 loop-holds c = filling-none
-
-mul-field : tie.Need-mul-field Inv-loop μ-loop
-mul-field c = search needs
-
-shared-slice-read-field : tie.Need-shared-slice-read-field Inv-loop μ-loop
-shared-slice-read-field c = search needs
 
 cast-field : tie.Need-cast-field Inv-loop μ-loop
 cast-field c = omega (arith, c .shared-slice-known3 .given (c .before .before .loop .i))
@@ -34,12 +25,6 @@ field-requires c κs =
     let l = c .before .before .before in
     let b = l .before .before .before in
     omega (arith, l .loop .inv .low, b .bytes .ensures .place, b .before .before .before .before .before .pre)
-
-add-i : tie.Need-add-i Inv-loop μ-loop
-add-i c = search needs
-
-loop-less : tie.Need-loop-less Inv-loop μ-loop
-loop-less c = search needs
 
 loop-again : tie.Need-loop-again Inv-loop μ-loop
 loop-again c =
@@ -58,14 +43,14 @@ words16-spec =
     (tie.spec
     Inv-loop
     μ-loop
-    bytes-requires
+    (λ c κs. search needs)
     loop-holds
-    mul-field
-    shared-slice-read-field
+    (λ c. search needs)
+    (λ c. search needs)
     cast-field
     field-requires
-    add-i
-    loop-less
+    (λ c. search needs)
+    (λ c. search needs)
     loop-again
     same-length
     returns)

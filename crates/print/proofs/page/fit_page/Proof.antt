@@ -26,30 +26,12 @@ page-handed s = ap (λ (excess : ℤ). fitted (page s excess) (s .args .out .now
 abbrev front : tie.After-write-page → List ℕ
 front c = c .write-page .last .1 .1 .1 .1 .1 .1 .1 .0
 
-slice-relend-prefix-write-page : tie.Need-slice-relend-prefix-write-page
-slice-relend-prefix-write-page c = search needs
-
-slice-aggregate-write-page : tie.Need-slice-aggregate-write-page
-slice-aggregate-write-page c = search needs
-
-write-page-requires : tie.Need-write-page-requires
-write-page-requires c κs = search needs
-
-same-length : tie.Need-same-length
-same-length c = search needs
-
 returns : tie.Need-returns
 returns c =
     let s = c .before .before .before .before .before .before .before .before .before .before .before in
     let m = c .before .before .before in
     measured-short (page s (handed s)) (front m) (s .args .out .now) (m .write-page .ensures .size) (m .write-page .ensures .place) (c .if1 .taken)
     ∙ page-handed s
-
-write-page-requires-2 : tie.Need-write-page-requires-2
-write-page-requires-2 c κs = search needs
-
-same-length-2 : tie.Need-same-length-2
-same-length-2 c = search needs
 
 returns-2 : tie.Need-returns-2
 returns-2 c =
@@ -63,11 +45,11 @@ pub fit-page-spec : {M : Type 1} → statement M
 fit-page-spec =
     tie.close
     (tie.spec
-    slice-relend-prefix-write-page
-    slice-aggregate-write-page
-    write-page-requires
-    same-length
+    (λ c. search needs)
+    (λ c. search needs)
+    (λ c κs. search needs)
+    (λ c. search needs)
     returns
-    write-page-requires-2
-    same-length-2
+    (λ c κs. search needs)
+    (λ c. search needs)
     returns-2)

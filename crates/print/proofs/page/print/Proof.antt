@@ -64,16 +64,10 @@ words-held c =
     let s = at-formed c in
     length-take-le (s .args .unit .k + 1) (s .args .aux .now) (omega (arith, facts c .words-held))
 
-well-formed-requires : tie.Need-well-formed-requires
-well-formed-requires c κs = search needs
-
 returns : tie.Need-returns
 returns c =
     let s = c .before .before .before .before .before .before in
     print-unformed (s .args .unit) (tables s) (s .args .out .now) (sym (c .before .well-formed .ensures) ∙ not-true _ (c .if1 .taken))
-
-masks-requires : tie.Need-masks-requires
-masks-requires c κs = tt
 
 sub-t21 : tie.Need-sub-t21
 sub-t21 c = facts (c .before .before) .bounds .rows-in
@@ -85,9 +79,6 @@ add-last : tie.Need-add-last
 add-last c =
     let s = at-formed (c .before .before) in
     omega (arith, few-words (s .args .unit) (tables s) (formed (c .before .before)) .0)
-
-slice-aggregate-fit-page : tie.Need-slice-aggregate-fit-page
-slice-aggregate-fit-page c = search needs
 
 array-share-prefix-masks : tie.Need-array-share-prefix-masks
 array-share-prefix-masks c = omega (arith, facts (c .before .before .before) .bounds .few, c .before .masks .ok)
@@ -117,9 +108,6 @@ fit-page-requires c κs =
       omega (arith, words-held e, w .0),
     )
 
-same-length : tie.Need-same-length
-same-length c = search needs
-
 returns-2 : tie.Need-returns-2
 returns-2 c =
     let s = at-formed (c .before .before .before .before .before .before .before .before .before .before .before .before) in
@@ -132,18 +120,18 @@ pub print-spec : {M : Type 1} → statement M
 print-spec =
     tie.close
     (tie.spec
-    well-formed-requires
+    (λ c κs. search needs)
     returns
-    masks-requires
+    (λ c κs. tt)
     sub-t21
     shl-rows
     add-last
-    slice-aggregate-fit-page
+    (λ c. search needs)
     array-share-prefix-masks
     slice-aggregate-fit-page-2
     slice-aggregate-fit-page-3
     slice-aggregate-fit-page-4
     slice-aggregate-fit-page-5
     fit-page-requires
-    same-length
+    (λ c. search needs)
     returns-2)

@@ -12,35 +12,11 @@ use Rattle.print.proofs.Pages.Fitting.{front-taken}
 use Rattle.print.proofs.page.refused.Statement.{statement}
 use Rattle.print.proofs.page.refused.Tie as tie
 
-slice-aggregate-words64 : tie.Need-slice-aggregate-words64
-slice-aggregate-words64 c = search needs
-
-slice-aggregate-words64-2 : tie.Need-slice-aggregate-words64-2
-slice-aggregate-words64-2 c = search needs
-
-slice-aggregate-words64-3 : tie.Need-slice-aggregate-words64-3
-slice-aggregate-words64-3 c = search needs
-
-words64-requires : tie.Need-words64-requires
-words64-requires c κs = search needs
-
-slice-aggregate-byte : tie.Need-slice-aggregate-byte
-slice-aggregate-byte c = search needs
-
-byte-requires : tie.Need-byte-requires
-byte-requires c κs = search needs
-
 array-share-prefix-shown : tie.Need-array-share-prefix-shown
 array-share-prefix-shown c = search needs
 
 slice-aggregate-text : tie.Need-slice-aggregate-text
 slice-aggregate-text c = sym (length-take-le _ _ (array-share-prefix-shown (c .before)))
-
-text-requires : tie.Need-text-requires
-text-requires c κs = search needs
-
-same-length : tie.Need-same-length
-same-length c = search needs
 
 returns : tie.Need-returns
 unfolding line
@@ -54,14 +30,14 @@ pub refused-spec : {M : Type 1} → statement M
 refused-spec =
     tie.close
     (tie.spec
-    slice-aggregate-words64
-    slice-aggregate-words64-2
-    slice-aggregate-words64-3
-    words64-requires
-    slice-aggregate-byte
-    byte-requires
+    (λ c. search needs)
+    (λ c. search needs)
+    (λ c. search needs)
+    (λ c κs. search needs)
+    (λ c. search needs)
+    (λ c κs. search needs)
     array-share-prefix-shown
     slice-aggregate-text
-    text-requires
-    same-length
+    (λ c κs. search needs)
+    (λ c. search needs)
     returns)

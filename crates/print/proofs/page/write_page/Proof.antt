@@ -29,44 +29,8 @@ cells-low c = let b = c .before .before .before .before .before in omega (arith,
 words-low : (c : tie.After-words644) → c .words644 .result ≤ lines 6
 words-low c = let b = c .before .before .before .before .before in omega (arith, c .words644 .ensures .1, cells-low b, start (b .before .before .before .before .before .before .before .before .before .before) .pre .4)
 
-slice-aggregate-words64 : tie.Need-slice-aggregate-words64
-slice-aggregate-words64 c = search needs
-
-words64-requires : tie.Need-words64-requires
-words64-requires c κs = search needs
-
-signed-field-requires : tie.Need-signed-field-requires
-signed-field-requires c κs = search needs
-
-slice-aggregate-words64-2 : tie.Need-slice-aggregate-words64-2
-slice-aggregate-words64-2 c = search needs
-
-words64-requires-2 : tie.Need-words64-requires-2
-words64-requires-2 c κs = search needs
-
-slice-aggregate-words64-3 : tie.Need-slice-aggregate-words64-3
-slice-aggregate-words64-3 c = search needs
-
-slice-aggregate-words64-4 : tie.Need-slice-aggregate-words64-4
-slice-aggregate-words64-4 c = search needs
-
-words64-requires-3 : tie.Need-words64-requires-3
-words64-requires-3 c κs = search needs
-
-slice-aggregate-words16 : tie.Need-slice-aggregate-words16
-slice-aggregate-words16 c = search needs
-
-words16-requires : tie.Need-words16-requires
-words16-requires c κs = search needs
-
-slice-aggregate-words16-2 : tie.Need-slice-aggregate-words16-2
-slice-aggregate-words16-2 c = search needs
-
 words16-requires-2 : tie.Need-words16-requires-2
 words16-requires-2 c κs = let h = c .before .before .before .before in omega (arith, rows-low h, start (h .before .before .before .before .before) .pre .3)
-
-slice-aggregate-words64-5 : tie.Need-slice-aggregate-words64-5
-slice-aggregate-words64-5 c = search needs
 
 words64-requires-4 : tie.Need-words64-requires-4
 words64-requires-4 c κs = let g = c .before .before .before .before in omega (arith, cells-low g, start (g .before .before .before .before .before .before .before .before .before .before) .pre .4)
@@ -101,19 +65,19 @@ pub write-page-spec : {M : Type 1} → statement M
 write-page-spec =
     tie.close
     (tie.spec
-    slice-aggregate-words64
-    words64-requires
-    signed-field-requires
-    slice-aggregate-words64-2
-    words64-requires-2
-    slice-aggregate-words64-3
-    slice-aggregate-words64-4
-    words64-requires-3
-    slice-aggregate-words16
-    words16-requires
-    slice-aggregate-words16-2
+    (λ c. search needs)
+    (λ c κs. search needs)
+    (λ c κs. search needs)
+    (λ c. search needs)
+    (λ c κs. search needs)
+    (λ c. search needs)
+    (λ c. search needs)
+    (λ c κs. search needs)
+    (λ c. search needs)
+    (λ c κs. search needs)
+    (λ c. search needs)
     words16-requires-2
-    slice-aggregate-words64-5
+    (λ c. search needs)
     words64-requires-4
     byte-requires
     same-length

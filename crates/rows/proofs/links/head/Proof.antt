@@ -8,14 +8,12 @@ use Rattle.rows.proofs.links.head.Tie as tie
 returns : tie.Need-returns
 returns c = sym (head-none _ _ (c .if1 .taken))
 
-sub-result : tie.Need-sub-result
-sub-result c = search needs
-
-cast-result : tie.Need-cast-result
-cast-result c = search needs
-
 returns-2 : tie.Need-returns-2
 returns-2 c = sym (head-some _ _ (c .if1 .left))
 
 pub head-spec : {M : Type 1} → statement M
-head-spec = tie.close (tie.spec returns sub-result cast-result returns-2)
+head-spec = tie.close (tie.spec
+    returns
+    (λ c. search needs)
+    (λ c. search needs)
+    returns-2)

@@ -17,12 +17,6 @@ Inv-loop aux₀ h₀ i₀ aux h i = (i < length aux₀) × Linking aux₀ (lengt
 abbrev μ-loop : tie.MeasureT-loop
 μ-loop aux₀ h₀ i₀ aux h i = i
 
-clear16-requires : tie.Need-clear16-requires Inv-loop μ-loop
-clear16-requires c κs = search needs
-
-sub-i : tie.Need-sub-i Inv-loop μ-loop
-sub-i c = search needs
-
 packed : (c : tie.After-slice-known3 Inv-loop μ-loop) → Packed (c .before .before .before .before .before .before .args .aux .now) (length (c .before .before .clear16 .last .0))
 packed c = rw (c .before .before .clear16 .kept .0) (c .before .before .before .before .before .before .pre .0)
 
@@ -60,12 +54,6 @@ mul-head c = omega (arith, row (c .before))
 slice-read-head : tie.Need-slice-read-head Inv-loop μ-loop
 slice-read-head c = row (c .before .before)
 
-head-requires : tie.Need-head-requires Inv-loop μ-loop
-head-requires c κs = search needs
-
-weight-from-requires : tie.Need-weight-from-requires Inv-loop μ-loop
-weight-from-requires c κs = search needs
-
 mul-aux : tie.Need-mul-aux Inv-loop μ-loop
 mul-aux c = omega (arith, bounds c)
 
@@ -99,12 +87,6 @@ mul-h c = omega (arith, row (c .before .before .before .before .before))
 slice-write-h : tie.Need-slice-write-h Inv-loop μ-loop
 slice-write-h c = row (c .before .before .before .before .before)
 
-sub-i-2 : tie.Need-sub-i-2 Inv-loop μ-loop
-sub-i-2 c = search needs
-
-loop-less : tie.Need-loop-less Inv-loop μ-loop
-loop-less c = search needs
-
 loop-again : tie.Need-loop-again Inv-loop μ-loop
 loop-again c =
     let l = c .before .before .before .before .before .before in
@@ -128,15 +110,15 @@ link-spec =
     (tie.spec
     Inv-loop
     μ-loop
-    clear16-requires
-    sub-i
+    (λ c κs. search needs)
+    (λ c. search needs)
     loop-holds
     mul-w
     slice-read-w
     mul-head
     slice-read-head
-    head-requires
-    weight-from-requires
+    (λ c κs. search needs)
+    (λ c κs. search needs)
     mul-aux
     add-aux
     add-aux-2
@@ -148,8 +130,8 @@ link-spec =
     add-h
     mul-h
     slice-write-h
-    sub-i-2
-    loop-less
+    (λ c. search needs)
+    (λ c. search needs)
     loop-again
     same-length
     same-length-2

@@ -16,21 +16,6 @@ abbrev μ-loop : tie.MeasureT-loop
 loop-holds : tie.Need-loop-holds Inv-loop μ-loop
 loop-holds c = unlinking-none _
 
-mul-aux : tie.Need-mul-aux Inv-loop μ-loop
-mul-aux c = search needs
-
-slice-read-aux : tie.Need-slice-read-aux Inv-loop μ-loop
-slice-read-aux c = search needs
-
-mul-aux-2 : tie.Need-mul-aux-2 Inv-loop μ-loop
-mul-aux-2 c = search needs
-
-slice-write-aux : tie.Need-slice-write-aux Inv-loop μ-loop
-slice-write-aux c = search needs
-
-add-i : tie.Need-add-i Inv-loop μ-loop
-add-i c = search needs
-
 loop-less : tie.Need-loop-less Inv-loop μ-loop
 loop-less c = omega (arith, c .before .before .loop .inv .size)
 
@@ -50,11 +35,11 @@ unlink-spec =
     Inv-loop
     μ-loop
     loop-holds
-    mul-aux
-    slice-read-aux
-    mul-aux-2
-    slice-write-aux
-    add-i
+    (λ c. search needs)
+    (λ c. search needs)
+    (λ c. search needs)
+    (λ c. search needs)
+    (λ c. search needs)
     loop-less
     loop-again
     same-length

@@ -5,12 +5,6 @@ use Rattle.rows.proofs.Chains.Steps.{weight-in, weight-out}
 use Rattle.rows.proofs.links.weight_from.Statement.{statement}
 use Rattle.rows.proofs.links.weight_from.Tie as tie
 
-mul-result : tie.Need-mul-result
-mul-result c = search needs
-
-shared-slice-read-result : tie.Need-shared-slice-read-result
-shared-slice-read-result c = search needs
-
 returns : tie.Need-returns
 returns c = sym (weight-in _ _ (c .before .if1 .taken))
 
@@ -18,4 +12,8 @@ returns-2 : tie.Need-returns-2
 returns-2 c = sym (weight-out _ _ (c .if1 .left))
 
 pub weight-from-spec : {M : Type 1} → statement M
-weight-from-spec = tie.close (tie.spec mul-result shared-slice-read-result returns returns-2)
+weight-from-spec = tie.close (tie.spec
+    (λ c. search needs)
+    (λ c. search needs)
+    returns
+    returns-2)

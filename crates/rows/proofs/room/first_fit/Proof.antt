@@ -114,9 +114,6 @@ none-left c =
     let s = l .before .before .before .before .before in
     passed-all _ _ _ _ (chain-pos _ (s .pre .0) _ (s .pre .1 .0 .0) (s .pre .1 .0 .1)) (l .before .top .ensures) (c .loop-test .left) (l .loop .inv .1)
 
-sub-t20 : tie.Need-sub-t20 Inv-loop μ-loop
-sub-t20 c = search needs
-
 returns-3 : tie.Need-returns-3 Inv-loop μ-loop
 returns-3 c = sym (none-left (c .before))
 
@@ -146,6 +143,6 @@ first-fit-spec =
     add-d
     loop-less
     loop-again
-    sub-t20
+    (λ c. search needs)
     returns-3
     returns-4)

@@ -48,15 +48,6 @@ later c =
 loop-holds : tie.Need-loop-holds Inv-loop μ-loop
 loop-holds c = let s = c .before .before in (s .pre .1 .0 .0, refl, s .pre .1 .0 .3, refl, s .pre .1 .1)
 
-mul-w : tie.Need-mul-w Inv-loop μ-loop
-mul-w c = search needs
-
-shared-slice-read-w : tie.Need-shared-slice-read-w Inv-loop μ-loop
-shared-slice-read-w c = search needs
-
-column-requires : tie.Need-column-requires Inv-loop μ-loop
-column-requires c κs = search needs
-
 add-c : tie.Need-add-c Inv-loop μ-loop
 add-c c = omega (arith, below c)
 
@@ -87,9 +78,6 @@ mul-taken-2 c = omega (arith, below (c .before))
 element-write-taken : tie.Need-element-write-taken Inv-loop μ-loop
 element-write-taken c = omega (arith, below (c .before))
 
-next-requires : tie.Need-next-requires Inv-loop μ-loop
-next-requires c κs = search needs
-
 loop-less : tie.Need-loop-less Inv-loop μ-loop
 loop-less c = omega (arith, later c)
 
@@ -107,9 +95,6 @@ loop-again c =
       taken-put _ _ _ _ (l .loop .inv .4) (b .low) (b .few) (omega (arith, l .loop .inv .0)),
     )
 
-same-length : tie.Need-same-length Inv-loop μ-loop
-same-length c = search needs
-
 returns : tie.Need-returns Inv-loop μ-loop
 returns c = let l = c .before in (sym (put-end _ _ (c .loop-test .left) _ _ _) ∙ l .loop .inv .3, l .loop .inv .4)
 
@@ -120,9 +105,9 @@ put-row-spec =
     Inv-loop
     μ-loop
     loop-holds
-    mul-w
-    shared-slice-read-w
-    column-requires
+    (λ c. search needs)
+    (λ c. search needs)
+    (λ c κs. search needs)
     add-c
     cast-g
     add-g
@@ -133,8 +118,8 @@ put-row-spec =
     shl-taken
     mul-taken-2
     element-write-taken
-    next-requires
+    (λ c κs. search needs)
     loop-less
     loop-again
-    same-length
+    (λ c. search needs)
     returns)

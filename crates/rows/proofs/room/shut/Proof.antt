@@ -37,15 +37,6 @@ later c =
 loop-holds : tie.Need-loop-holds Inv-loop μ-loop
 loop-holds c = (c .before .before .pre .1 .0, c .before .before .pre .1 .1, λ t l. shut-start _ _ t _)
 
-mul-w : tie.Need-mul-w Inv-loop μ-loop
-mul-w c = search needs
-
-shared-slice-read-w : tie.Need-shared-slice-read-w Inv-loop μ-loop
-shared-slice-read-w c = search needs
-
-column-requires : tie.Need-column-requires Inv-loop μ-loop
-column-requires c κs = search needs
-
 add-window : tie.Need-add-window Inv-loop μ-loop
 add-window c = omega (arith, below c)
 
@@ -56,9 +47,6 @@ returns : tie.Need-returns Inv-loop μ-loop
 returns c =
     let l = c .before .before .before .before .before in
     λ t h. shut-all _ (l .before .before .before .pre .0) _ (l .loop .inv .0) (c .before .before .before .before .loop-test .taken) _ _ (c .before .before .column .ensures) refl _ _ _ _ _ t h (c .if1 .taken) (c .before .window .ensures t h) (l .loop .inv .2 t h)
-
-next-requires : tie.Need-next-requires Inv-loop μ-loop
-next-requires c κs = search needs
 
 loop-less : tie.Need-loop-less Inv-loop μ-loop
 loop-less c = omega (arith, later c)
@@ -84,13 +72,13 @@ shut-spec =
     Inv-loop
     μ-loop
     loop-holds
-    mul-w
-    shared-slice-read-w
-    column-requires
+    (λ c. search needs)
+    (λ c. search needs)
+    (λ c κs. search needs)
     add-window
     window-requires
     returns
-    next-requires
+    (λ c κs. search needs)
     loop-less
     loop-again
     returns-2)

@@ -17,38 +17,8 @@ abbrev μ-loop : tie.MeasureT-loop
 loop-holds : tie.Need-loop-holds Inv-loop μ-loop
 loop-holds c = taken-none (c .args .g .now) _ refl
 
-add-i : tie.Need-add-i Inv-loop μ-loop
-add-i c = search needs
-
-mul-if1 : tie.Need-mul-if1 Inv-loop μ-loop
-mul-if1 c = search needs
-
-shared-slice-read-if1 : tie.Need-shared-slice-read-if1 Inv-loop μ-loop
-shared-slice-read-if1 c = search needs
-
-mul-taken : tie.Need-mul-taken Inv-loop μ-loop
-mul-taken c = search needs
-
-array-read-taken : tie.Need-array-read-taken Inv-loop μ-loop
-array-read-taken c = search needs
-
-shl-taken : tie.Need-shl-taken Inv-loop μ-loop
-shl-taken c = search needs
-
-mul-taken-2 : tie.Need-mul-taken-2 Inv-loop μ-loop
-mul-taken-2 c = search needs
-
-array-write-taken : tie.Need-array-write-taken Inv-loop μ-loop
-array-write-taken c = search needs
-
-loop-less : tie.Need-loop-less Inv-loop μ-loop
-loop-less c = search needs
-
 loop-again : tie.Need-loop-again Inv-loop μ-loop
 loop-again c = let l = c .before .before .before in taken-shut _ _ _ (l .loop .inv) (c .before .before .loop-test .taken) (l .before .pre) (c .if1 .taken)
-
-loop-less-2 : tie.Need-loop-less-2 Inv-loop μ-loop
-loop-less-2 c = search needs
 
 loop-again-2 : tie.Need-loop-again-2 Inv-loop μ-loop
 loop-again-2 c = let l = c .before .before .before in taken-free (l .before .args .g .now) _ (l .loop .i) (l .loop .inv) (c .if1 .left)
@@ -63,16 +33,16 @@ take-cells-spec =
     Inv-loop
     μ-loop
     loop-holds
-    add-i
-    mul-if1
-    shared-slice-read-if1
-    mul-taken
-    array-read-taken
-    shl-taken
-    mul-taken-2
-    array-write-taken
-    loop-less
+    (λ c. search needs)
+    (λ c. search needs)
+    (λ c. search needs)
+    (λ c. search needs)
+    (λ c. search needs)
+    (λ c. search needs)
+    (λ c. search needs)
+    (λ c. search needs)
+    (λ c. search needs)
     loop-again
-    loop-less-2
+    (λ c. search needs)
     loop-again-2
     returns)

@@ -12,12 +12,6 @@ use Rattle.rows.proofs.sweep.place_row.Tie as tie
 abbrev start : tie.After-first-fit → tie.Start
 start c = c .before .before .before .before .before .before .before
 
-first-fit-requires : tie.Need-first-fit-requires
-first-fit-requires c κs = search needs
-
-enum-known-fit : tie.Need-enum-known-fit
-enum-known-fit c = search needs
-
 put-row-requires : tie.Need-put-row-requires
 put-row-requires c κs =
     let f = c .before .before .before .before .before in
@@ -32,29 +26,11 @@ cast-h c =
     let e = sym (f .first-fit .ensures) ∙ c .before .before .before .before .before .before .fit .given .1 in
     omega (arith, fit-low _ _ _ (chain-pos _ (s .pre .0) _ (s .pre .1 .0 .0) (s .pre .1 .0 .1)) e, s .pre .1 .0)
 
-mul-h : tie.Need-mul-h
-mul-h c = search needs
-
-slice-write-h : tie.Need-slice-write-h
-slice-write-h c = search needs
-
-enum-known-fit-2 : tie.Need-enum-known-fit-2
-enum-known-fit-2 c = search needs
-
-same-length : tie.Need-same-length
-same-length c = search needs
-
-same-length-2 : tie.Need-same-length-2
-same-length-2 c = search needs
-
 returns : tie.Need-returns
 returns c =
     let p = c .before .before .put-row .ensures in
     let e = sym (c .before .before .before .before .before .before .before .before .first-fit .ensures) ∙ c .before .before .before .before .before .before .fit .given .1 in
     (placed-at _ _ _ _ _ (owned-fit _ _ _ ∙ e) (p .0), p .1)
-
-same-length-3 : tie.Need-same-length-3
-same-length-3 c = search needs
 
 returns-2 : tie.Need-returns-2
 returns-2 c =
@@ -66,15 +42,15 @@ pub place-row-spec : {M : Type 1} → statement M
 place-row-spec =
     tie.close
     (tie.spec
-    first-fit-requires
-    enum-known-fit
+    (λ c κs. search needs)
+    (λ c. search needs)
     put-row-requires
     cast-h
-    mul-h
-    slice-write-h
-    enum-known-fit-2
-    same-length
-    same-length-2
+    (λ c. search needs)
+    (λ c. search needs)
+    (λ c. search needs)
+    (λ c. search needs)
+    (λ c. search needs)
     returns
-    same-length-3
+    (λ c. search needs)
     returns-2)

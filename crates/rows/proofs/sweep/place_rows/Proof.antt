@@ -32,26 +32,8 @@ met c = c .before .before .before .before .before .before
 abbrev level-row : tie.After-place-row Inv-loop μ-loop → tie.Then2 Inv-loop μ-loop
 level-row r = r .before .before .before .before
 
-sub-level : tie.Need-sub-level Inv-loop μ-loop
-sub-level c = search needs
-
 loop-holds : tie.Need-loop-holds Inv-loop μ-loop
 loop-holds c = let s = c .before .before .before in (going-start _ _ _ _ (s .pre .1 .1 .0), refl, refl, omega arith, s .pre .1 .1 .1 .1 .0)
-
-mul-head : tie.Need-mul-head Inv-loop μ-loop
-mul-head c = search needs
-
-slice-read-head : tie.Need-slice-read-head Inv-loop μ-loop
-slice-read-head c = search needs
-
-head-requires : tie.Need-head-requires Inv-loop μ-loop
-head-requires c κs = search needs
-
-weight-from-requires : tie.Need-weight-from-requires Inv-loop μ-loop
-weight-from-requires c κs = search needs
-
-add-i : tie.Need-add-i Inv-loop μ-loop
-add-i c = search needs
 
 -- a row of the level
 at-level : (c : tie.Then2 Inv-loop μ-loop) → let l = met c in
@@ -81,9 +63,6 @@ place-row-requires c κs =
     let m = at-level t .marks in
     (s .pre .0, ((m .low, m .high, omega (arith, s .pre .1 .1 .1 .0), t .before .before .before .before .if1 .taken, omega (arith, s .pre .1 .1 .1 .0, l .loop .inv .2)), l .loop .inv .4))
 
-enum-known-fit : tie.Need-enum-known-fit Inv-loop μ-loop
-enum-known-fit c = search needs
-
 add-tries : tie.Need-add-tries Inv-loop μ-loop
 add-tries c =
     let r = c .before .before .before .before .before .before .before in
@@ -110,16 +89,10 @@ loop-again c =
       r .place-row .ensures .1,
     )
 
-enum-known-fit-2 : tie.Need-enum-known-fit-2 Inv-loop μ-loop
-enum-known-fit-2 c = search needs
-
 undo-requires : tie.Need-undo-requires Inv-loop μ-loop
 undo-requires c κs =
     let r = c .before .before .before .before .before .before .before .before .before in
     at-level (level-row r) .stuck (r .place-row .ensures .0) _ (c .before .before .before .fit2 .given .1) .within
-
-clear16-requires : tie.Need-clear16-requires Inv-loop μ-loop
-clear16-requires c κs = search needs
 
 same-length : tie.Need-same-length Inv-loop μ-loop
 same-length c = let r = c .before .before .before .before .before .before .before .before .before .before .before .before .before .before .before .before in c .before .before .clear16 .kept .0 ∙ r .place-row .kept .1 .0 ∙ met (level-row r) .loop .inv .1
@@ -192,22 +165,22 @@ place-rows-spec =
     (tie.spec
     Inv-loop
     μ-loop
-    sub-level
+    (λ c. search needs)
     loop-holds
-    mul-head
-    slice-read-head
-    head-requires
-    weight-from-requires
-    add-i
+    (λ c. search needs)
+    (λ c. search needs)
+    (λ c κs. search needs)
+    (λ c κs. search needs)
+    (λ c. search needs)
     place-row-requires
-    enum-known-fit
+    (λ c. search needs)
     add-tries
     add-tries-2
     loop-less
     loop-again
-    enum-known-fit-2
+    (λ c. search needs)
     undo-requires
-    clear16-requires
+    (λ c κs. search needs)
     same-length
     same-length-2
     returns

@@ -15,48 +15,18 @@ abbrev μ-loop : tie.MeasureT-loop
 loop-holds : tie.Need-loop-holds Inv-loop μ-loop
 loop-holds c = emptying-none _ _ _ (c .before .before .before .pre)
 
-mul-w : tie.Need-mul-w Inv-loop μ-loop
-mul-w c = search needs
-
-shared-slice-read-w : tie.Need-shared-slice-read-w Inv-loop μ-loop
-shared-slice-read-w c = search needs
-
-mul-d : tie.Need-mul-d Inv-loop μ-loop
-mul-d c = search needs
-
 shared-slice-read-d : tie.Need-shared-slice-read-d Inv-loop μ-loop
 shared-slice-read-d c = emptying-at _ _ _ _ _ (c .before .before .before .loop .inv) (c .before .before .loop-test .taken) .0
-
-add-i : tie.Need-add-i Inv-loop μ-loop
-add-i c = search needs
-
-column-requires : tie.Need-column-requires Inv-loop μ-loop
-column-requires c κs = search needs
-
-cast-g : tie.Need-cast-g Inv-loop μ-loop
-cast-g c = search needs
-
-add-g : tie.Need-add-g Inv-loop μ-loop
-add-g c = search needs
-
-mul-g : tie.Need-mul-g Inv-loop μ-loop
-mul-g c = search needs
 
 slice-write-g : tie.Need-slice-write-g Inv-loop μ-loop
 slice-write-g c =
     let l = c .before .before .before .before .before in
     emptying-cell _ _ _ _ _ (l .loop .inv) (c .before .before .before .before .loop-test .taken) _ (c .column .ensures) (c .before .if1 .taken)
 
-loop-less : tie.Need-loop-less Inv-loop μ-loop
-loop-less c = search needs
-
 loop-again : tie.Need-loop-again Inv-loop μ-loop
 loop-again c =
     let l = c .before .before .before .before .before in
     emptying-yes _ _ _ _ _ (l .loop .inv) (c .before .before .before .before .loop-test .taken) _ (c .column .ensures) (c .before .if1 .taken)
-
-loop-less-2 : tie.Need-loop-less-2 Inv-loop μ-loop
-loop-less-2 c = search needs
 
 loop-again-2 : tie.Need-loop-again-2 Inv-loop μ-loop
 loop-again-2 c = let l = c .before .before .before .before in emptying-no _ _ _ _ _ (l .loop .inv) (c .before .before .before .loop-test .taken) (c .if1 .left)
@@ -74,19 +44,19 @@ undo-spec =
     Inv-loop
     μ-loop
     loop-holds
-    mul-w
-    shared-slice-read-w
-    mul-d
+    (λ c. search needs)
+    (λ c. search needs)
+    (λ c. search needs)
     shared-slice-read-d
-    add-i
-    column-requires
-    cast-g
-    add-g
-    mul-g
+    (λ c. search needs)
+    (λ c κs. search needs)
+    (λ c. search needs)
+    (λ c. search needs)
+    (λ c. search needs)
     slice-write-g
-    loop-less
+    (λ c. search needs)
     loop-again
-    loop-less-2
+    (λ c. search needs)
     loop-again-2
     same-length
     returns)

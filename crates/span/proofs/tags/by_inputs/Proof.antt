@@ -29,9 +29,6 @@ cast-bit c = omega arith
 add-j : tie.Need-add-j Inv-loop μ-loop
 add-j c = omega arith
 
-slice-aggregate-join : tie.Need-slice-aggregate-join Inv-loop μ-loop
-slice-aggregate-join c = search needs
-
 join-requires : tie.Need-join-requires Inv-loop μ-loop
 join-requires c κs = omega (arith, c .before .before .loop .inv .2 .size)
 
@@ -72,7 +69,7 @@ by-inputs-spec =
     shl-place
     cast-bit
     add-j
-    slice-aggregate-join
+    (λ c. search needs)
     join-requires
     loop-less
     loop-again

@@ -53,42 +53,18 @@ ends c =
     let e = edge-at (inputsIn (a .n)) (ks (s .before .before .before .before)) (s .loop .i) (One 0) (edges-within (inputsIn (a .n)) (kindsOf (take (a .p) (a .t2)))) h in
     record { one = one; other = other; one-low = omega (arith, e .earlier-in); other-low = omega (arith, e .later-in) }
 
-least-requires : tie.Need-least-requires Inv-loop μ-loop
-least-requires c κs = tt
-
-least-requires-2 : tie.Need-least-requires-2 Inv-loop μ-loop
-least-requires-2 c κs = tt
-
-start-requires : tie.Need-start-requires Inv-loop μ-loop
-start-requires c κs = tt
-
 loop-holds : tie.Need-loop-holds Inv-loop μ-loop
 loop-holds c =
     (omega arith, c .before .before .before .good .1 .0 .1 .0 .1, c .before .before .least .ensures, c .before .least2 .ensures, walking-none _ _ _ (c .start .ensures))
 
-mul-v : tie.Need-mul-v Inv-loop μ-loop
-mul-v c = search needs
-
-array-copy-out-v : tie.Need-array-copy-out-v Inv-loop μ-loop
-array-copy-out-v c = search needs
-
-ends-requires : tie.Need-ends-requires Inv-loop μ-loop
-ends-requires c κs = tt
-
 cast-bit : tie.Need-cast-bit Inv-loop μ-loop
 cast-bit c = omega arith
-
-slice-aggregate-join : tie.Need-slice-aggregate-join Inv-loop μ-loop
-slice-aggregate-join c = search needs
 
 join-requires : tie.Need-join-requires Inv-loop μ-loop
 join-requires c κs = omega (arith, ends (c .before), c .before .before .before .before .loop .inv .4 .size)
 
 add-i : tie.Need-add-i Inv-loop μ-loop
 add-i c = omega arith
-
-noted-requires : tie.Need-noted-requires Inv-loop μ-loop
-noted-requires c κs = tt
 
 loop-less : tie.Need-loop-less Inv-loop μ-loop
 loop-less c = omega arith
@@ -118,18 +94,18 @@ by-variables-spec =
     (tie.spec
     Inv-loop
     μ-loop
-    least-requires
-    least-requires-2
-    start-requires
+    (λ c κs. tt)
+    (λ c κs. tt)
+    (λ c κs. tt)
     loop-holds
-    mul-v
-    array-copy-out-v
-    ends-requires
+    (λ c. search needs)
+    (λ c. search needs)
+    (λ c κs. tt)
     cast-bit
-    slice-aggregate-join
+    (λ c. search needs)
     join-requires
     add-i
-    noted-requires
+    (λ c κs. tt)
     loop-less
     loop-again
     returns)

@@ -7,21 +7,6 @@ use Rattle.span.specs.Within.{within}
 use Rattle.span.proofs.tags.ends.Statement.{statement}
 use Rattle.span.proofs.tags.ends.Tie as tie
 
-enum-known-kind : tie.Need-enum-known-kind
-enum-known-kind c = search needs
-
-node-requires : tie.Need-node-requires
-node-requires c κs = search needs
-
-enum-known-kind-2 : tie.Need-enum-known-kind-2
-enum-known-kind-2 c = search needs
-
-node-requires-2 : tie.Need-node-requires-2
-node-requires-2 c κs = search needs
-
-node-requires-3 : tie.Need-node-requires-3
-node-requires-3 c κs = search needs
-
 returns : tie.Need-returns
 returns c =
     let e = c .before .before .kind .given .1 in
@@ -36,10 +21,10 @@ pub ends-spec : {M : Type 1} → statement M
 ends-spec =
     tie.close
     (tie.spec
-    enum-known-kind
-    node-requires
-    enum-known-kind-2
-    node-requires-2
-    node-requires-3
+    (λ c. search needs)
+    (λ c κs. search needs)
+    (λ c. search needs)
+    (λ c κs. search needs)
+    (λ c κs. search needs)
     returns
     returns-2)

@@ -35,9 +35,6 @@ loop-holds c = (omega arith, refl, refl)
 slice-read-turned : tie.Need-slice-read-turned Inv-loop μ-loop
 slice-read-turned c = omega arith
 
-turned-requires : tie.Need-turned-requires Inv-loop μ-loop
-turned-requires c κs = tt
-
 slice-write-tags : tie.Need-slice-write-tags Inv-loop μ-loop
 slice-write-tags c = omega arith
 
@@ -51,9 +48,6 @@ loop-again : tie.Need-loop-again Inv-loop μ-loop
 loop-again c =
     let s : tie.At-loop Inv-loop μ-loop = c .before .before .before in
     let r = part-stored _ _ _ _ _ _ _ (omega arith) (s .loop .inv .2) (c .turned .ensures) refl in (omega arith, r .0, r .1)
-
-same-length : tie.Need-same-length Inv-loop μ-loop
-same-length c = search needs
 
 returns-2 : tie.Need-returns-2 Inv-loop μ-loop
 returns-2 c =
@@ -71,10 +65,10 @@ join-spec =
     returns
     loop-holds
     slice-read-turned
-    turned-requires
+    (λ c κs. tt)
     slice-write-tags
     add-i
     loop-less
     loop-again
-    same-length
+    (λ c. search needs)
     returns-2)

@@ -1,4 +1,4 @@
--- The best row by row is the best of all candidates. Assumes nothing.
+-- The best line by line is the best of all candidates. Assumes nothing.
 use Prim.Native.Nat.{ℕ, zero, suc, _+_, _-_, _≤_, _<_}
 use native.Mathlib.Omega.{arith}
 use mathlib.Core.Path.{_≡_, refl, sym, ap, subst, _∙_}
@@ -12,13 +12,13 @@ use Rattle.vectors.specs.declared.Kind.the-variants.{One, Two}
 use Rattle.choice.specs.Choice.{ones, twosAt, twos, candidates, fewest, bestOf}
 use Rattle.choice.proofs.Choice.Loops.{better, fewest-append, best-one, best-two}
 use Rattle.choice.specs.declared.search.Best.{Best}
-use Rattle.choice.specs.Inner.Search.{betterOf, bestRow, bestRows, noneBest, rowsOf}
+use Rattle.choice.specs.Inner.Search.{betterOf, bestLine, bestLines, noneBest, linesOf}
 use Rattle.choice.proofs.Counting.Agree.{ltb-rest}
 use Rattle.choice.proofs.Searching.Order.{kindOf}
 
--- no more rows than inputs
-pub rows-few : (n degree : ℕ) → 0 < n → rowsOf n degree ≤ n
-rows-few n degree h = go (eqb degree 2)
+-- no more lines than inputs
+pub lines-few : (n degree : ℕ) → 0 < n → linesOf n degree ≤ n
+lines-few n degree h = go (eqb degree 2)
   where
     go : (t : Bool) → cond t n 1 ≤ n
     go true = omega arith
@@ -69,26 +69,26 @@ module _ (g : ℕ → ℕ → ℕ) (most n : ℕ) (low : (i j : ℕ) → i < j �
   better-pair b zero j h l p = better-held b (One j) p (low zero j h l)
   better-pair b (suc i) j h l p = better-held b (Two (suc i) j) p (low (suc i) j h l)
 
-  -- a row
-  row-held : (b : Kind) (i d j : ℕ) → i < j → j + d ≤ n + 1 → Low b → (bestRow g (held b) i d j ≡ held (fewest left b (kinds i d j))) × Low (fewest left b (kinds i d j))
-  unfolding bestRow fewest kinds
-  row-held b i zero j h m p = (refl, p)
-  row-held b i (suc d) j h m p =
+  -- a line
+  line-held : (b : Kind) (i d j : ℕ) → i < j → j + d ≤ n + 1 → Low b → (bestLine g (held b) i d j ≡ held (fewest left b (kinds i d j))) × Low (fewest left b (kinds i d j))
+  unfolding bestLine fewest kinds
+  line-held b i zero j h m p = (refl, p)
+  line-held b i (suc d) j h m p =
       let (e, q) = better-pair b i j h (omega arith) p in
-      let (r, s) = row-held (better left b (kindOf i j)) i d (suc j) (omega arith) (omega arith) q in
-      (ap (λ (x : Best). bestRow g x i d (suc j)) e ∙ r, s)
+      let (r, s) = line-held (better left b (kindOf i j)) i d (suc j) (omega arith) (omega arith) q in
+      (ap (λ (x : Best). bestLine g x i d (suc j)) e ∙ r, s)
 
   -- the pairs
-  rows-held : (b : Kind) (i d : ℕ) → suc i + d ≡ n → Low b → bestRows g n (held b) (suc i) d ≡ held (fewest left b (twos (suc d) (suc i)))
-  unfolding bestRows twos twosAt fewest
-  rows-held b i zero m p = refl
-  rows-held b i (suc d) m p =
+  lines-held : (b : Kind) (i d : ℕ) → suc i + d ≡ n → Low b → bestLines g n (held b) (suc i) d ≡ held (fewest left b (twos (suc d) (suc i)))
+  unfolding bestLines twos twosAt fewest
+  lines-held b i zero m p = refl
+  lines-held b i (suc d) m p =
       let e : n - suc i ≡ suc d = omega arith in
-      let (r, s) = row-held b (suc i) (suc d) (suc (suc i)) (omega arith) (omega arith) p in
+      let (r, s) = line-held b (suc i) (suc d) (suc (suc i)) (omega arith) (omega arith) p in
       let k : kinds (suc i) (suc d) (suc (suc i)) ≡ twosAt (suc d) (suc i) (suc (suc i)) = kinds-twos i (suc d) (suc (suc i)) in
-      ap (λ (c : ℕ). bestRows g n (bestRow g (held b) (suc i) c (suc (suc i))) (suc (suc i)) d) e
-      ∙ ap (λ (x : Best). bestRows g n x (suc (suc i)) d) r
-      ∙ rows-held (fewest left b (kinds (suc i) (suc d) (suc (suc i)))) (suc i) d (omega arith) s
+      ap (λ (c : ℕ). bestLines g n (bestLine g (held b) (suc i) c (suc (suc i))) (suc (suc i)) d) e
+      ∙ ap (λ (x : Best). bestLines g n x (suc (suc i)) d) r
+      ∙ lines-held (fewest left b (kinds (suc i) (suc d) (suc (suc i)))) (suc i) d (omega arith) s
       ∙ ap (λ (l : List Kind). held (fewest left (fewest left b l) (twos (suc d) (suc (suc i))))) k
       ∙ ap held (sym (fewest-append left b (twosAt (suc d) (suc i) (suc (suc i))) (twos (suc d) (suc (suc i)))))
 
@@ -101,31 +101,31 @@ module _ (g : ℕ → ℕ → ℕ) (most n : ℕ) (low : (i j : ℕ) → i < j �
       go (suc v) = rw (lt-ltb 0 (suc v) (omega arith)) refl
 
   module _ (m : ℕ) (h : n ≡ suc m) where
-    ones-held : (bestRow g noneBest 0 n 1 ≡ held (fewest left (One 1) (ones (n - 1) 2))) × Low (fewest left (One 1) (ones (n - 1) 2))
-    unfolding bestRow
+    ones-held : (bestLine g noneBest 0 n 1 ≡ held (fewest left (One 1) (ones (n - 1) 2))) × Low (fewest left (One 1) (ones (n - 1) 2))
+    unfolding bestLine
     ones-held =
         let d : n - 1 ≡ m = omega arith in
-        let (r, s) = row-held (One 1) 0 m 2 (omega arith) (omega arith) (low 0 1 (omega arith) (omega arith)) in
+        let (r, s) = line-held (One 1) 0 m 2 (omega arith) (omega arith) (low 0 1 (omega arith) (omega arith)) in
         let q : fewest left (One 1) (kinds 0 m 2) ≡ fewest left (One 1) (ones (n - 1) 2) = ap (fewest left (One 1)) (kinds-ones m 2 ∙ ap (λ (c : ℕ). ones c 2) (sym d)) in
-        (ap (λ (c : ℕ). bestRow g noneBest 0 c 1) h ∙ ap (λ (x : Best). bestRow g x 0 m 2) first-held ∙ r ∙ ap held q, subst Low q s)
+        (ap (λ (c : ℕ). bestLine g noneBest 0 c 1) h ∙ ap (λ (x : Best). bestLine g x 0 m 2) first-held ∙ r ∙ ap held q, subst Low q s)
 
-    -- the row of the single inputs, then the others
-    rows-first : (d : ℕ) → bestRows g n noneBest 0 (suc d) ≡ bestRows g n (bestRow g noneBest 0 n 1) 1 d
-    unfolding bestRows
-    rows-first d = let e : n - 0 ≡ n = omega arith in ap (λ (c : ℕ). bestRows g n (bestRow g noneBest 0 c 1) 1 d) e
+    -- the line of the single inputs, then the others
+    lines-first : (d : ℕ) → bestLines g n noneBest 0 (suc d) ≡ bestLines g n (bestLine g noneBest 0 n 1) 1 d
+    unfolding bestLines
+    lines-first d = let e : n - 0 ≡ n = omega arith in ap (λ (c : ℕ). bestLines g n (bestLine g noneBest 0 c 1) 1 d) e
 
-    rows-one : bestRows g n (bestRow g noneBest 0 n 1) 1 0 ≡ bestRow g noneBest 0 n 1
-    unfolding bestRows
-    rows-one = refl
+    lines-one : bestLines g n (bestLine g noneBest 0 n 1) 1 0 ≡ bestLine g noneBest 0 n 1
+    unfolding bestLines
+    lines-one = refl
 
-    -- all rows
-    pub rows-best : (degree : ℕ) → bestRows g n noneBest 0 (rowsOf n degree) ≡ held (bestOf left (candidates n degree))
-    rows-best degree = go (eqb degree 2) refl
+    -- all lines
+    pub lines-best : (degree : ℕ) → bestLines g n noneBest 0 (linesOf n degree) ≡ held (bestOf left (candidates n degree))
+    lines-best degree = go (eqb degree 2) refl
       where
-        go : (t : Bool) → eqb degree 2 ≡ t → bestRows g n noneBest 0 (cond t n 1) ≡ held (bestOf left (candidates n degree))
-        go false e = rows-first 0 ∙ rows-one ∙ ones-held .0 ∙ ap held (sym (best-one left n degree (omega arith) (eqb-false degree 2 e)))
+        go : (t : Bool) → eqb degree 2 ≡ t → bestLines g n noneBest 0 (cond t n 1) ≡ held (bestOf left (candidates n degree))
+        go false e = lines-first 0 ∙ lines-one ∙ ones-held .0 ∙ ap held (sym (best-one left n degree (omega arith) (eqb-false degree 2 e)))
         go true e =
-            ap (bestRows g n noneBest 0) h ∙ rows-first m ∙ ap (λ (x : Best). bestRows g n x 1 m) (ones-held .0)
-            ∙ rows-held (fewest left (One 1) (ones (n - 1) 2)) 0 m (omega arith) (ones-held .1)
+            ap (bestLines g n noneBest 0) h ∙ lines-first m ∙ ap (λ (x : Best). bestLines g n x 1 m) (ones-held .0)
+            ∙ lines-held (fewest left (One 1) (ones (n - 1) 2)) 0 m (omega arith) (ones-held .1)
             ∙ ap (λ (c : ℕ). held (fewest left (fewest left (One 1) (ones (n - 1) 2)) (twos c 1))) (sym h)
             ∙ ap held (sym (best-two left n degree (omega arith) (eqb-true degree 2 e)))

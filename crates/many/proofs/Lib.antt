@@ -1,6 +1,0 @@
-pub mod Stored
-pub mod Linear
-pub mod Masking
-pub mod Singles
-pub mod Answers
-pub mod Keys
