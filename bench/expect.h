@@ -1,4 +1,4 @@
-/* What document 01 says outright of an answer, without choosing or placing anything: the absolute half of the cross-check. */
+/* What docs/SCOPE.md says outright of an answer, without choosing or placing anything: the absolute half of the cross-check. */
 #ifndef EXPECT_H
 #define EXPECT_H
 

@@ -7,7 +7,7 @@
 static const char *const side_names[2] = {"igu", "twin"};
 static const char *const entry_names[ENTRIES] = {"build", "build_given", "lookup", "recover"};
 
-/* The refusals that document 01 lets each entry give, as bits. */
+/* The refusals that docs/SCOPE.md lets each entry give, as bits. */
 static const unsigned possible[ENTRIES] = {
     [BUILD] = 0x38FF,       /* 0 to 7, 11, 12, 13 */
     [BUILD_GIVEN] = 0x37FF, /* 0 to 10, 12, 13 */

@@ -1,4 +1,4 @@
-/* The index generation unit, written from document 01 alone and independent of the proved code, for comparing and timing.
+/* The index generation unit, written from the scope document alone and independent of the proved code, for comparing and timing.
  *
  * A variable's word is i + 256 * j, as in the record. Read as two inputs i and j, with an input 0 that is always 0, a single input needs
  * no case of its own. Nothing is allocated; every array has the size of the worst case. */

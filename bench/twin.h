@@ -1,5 +1,5 @@
-/* The index generation unit written a second time, from document 01 alone, for comparing and timing. Parameters, memory, results and
- * the record are those of igu.h; only the prefix differs. */
+/* The index generation unit written a second time, from the scope document alone, for comparing and timing. Parameters, memory, results
+ * and the record are those of igu.h; only the prefix differs. */
 #ifndef TWIN_H
 #define TWIN_H
 

@@ -2,10 +2,17 @@
  * H, G and AUX, so that a key gives its number, or 0, with one addition.
  *
  * The functions are proved, in crate bridge; docs/PROMISES.md names the definition that each one equals. The refusals 1 to 15 are
- * those of README.md. None has a condition on numbers: every call with the memory below ends, and gives an answer or a refusal.
+ * those of README.md. None has a condition on numbers: every call ends, with an answer or a refusal, if the caller keeps to this:
  *
- * What the caller owes: every pointer is aligned and not null, also with length 0, and is good for as many elements as its length says
- * (or 40, 24 or 1, as the declaration says); memory that a call writes overlaps no other memory of that call. */
+ * Memory. Every pointer is aligned and not null, also with length 0, and is good for as many elements as its length says (or 40, 24 or
+ * 1, as the declaration says). Memory that a call writes overlaps no other memory of that call.
+ *
+ * Stack. A call needs at most this much of it: igu_build 80 KB, igu_build_given 20 KB, igu_recover and igu_lookup 2 KB. With less it
+ * can end the process, as igu_build does on a stack of 64 KB. docs/FIGURES.md has what was measured.
+ *
+ * Threads. The functions keep nothing between calls. Calls may run in several threads at once, as long as no call writes memory that
+ * another one is using: each build has a record and tables of its own; lookups and recoveries may share those of a build that has
+ * ended, each recovery with its own place for the vector. */
 #ifndef IGU_H
 #define IGU_H
 
@@ -44,14 +51,17 @@ uint64_t igu_build_given(size_t n, size_t p, size_t n1, size_t L, const uint64_t
                          size_t k, uint16_t *h, size_t h_len, uint16_t *g, size_t g_len, uint64_t *aux, size_t aux_len,
                          uint64_t record[IGU_RECORD_WORDS]);
 
-/* Returns refusal + 256 * index. With record and tables as a build left them, and x of n bits: the index i, 1 to k, exactly when x is
- * vector i in every bit, else 0. With any other record and tables: the answer that the rules (docs/SCOPE.md, 9) give, or refusal 14; 14 too where any
- * of the 24 variable words is above 2^17 - 1. Writes nothing. */
+/* Returns refusal + 256 * index; beside a refusal the index is 0, so take the two apart. With record and tables as a build left them:
+ * the index i, 1 to k, exactly when x is vector i in every bit; 0 where x is no vector of the list; refusal 6 where x has a bit beyond
+ * n. With any other record and tables: refusal 14, or the answer that the rules give (docs/SCOPE.md, 9), which can be wrong for the
+ * list. README.md says which damage 14 sees; beside that, 14 is given where any of the 24 variable words is above 2^17 - 1. Writes
+ * nothing. */
 uint64_t igu_lookup(const uint64_t record[IGU_RECORD_WORDS], const uint16_t *h, size_t h_len, const uint16_t *g, size_t g_len,
                     const uint64_t *aux, size_t aux_len, uint64_t x);
 
-/* Returns the refusal, and writes the vector with number i, or 0 beside a refusal. With record and tables as a build left them, and i
- * of 1 to k, that is vector i of the list. Writes nothing else. */
+/* Returns the refusal, and writes the vector with number i, or 0 beside a refusal. With record and tables as a build left them: vector
+ * i of the list for i of 1 to k, refusal 15 for any other i. With any other record and tables as for igu_lookup, by docs/SCOPE.md, 10.
+ * Writes nothing else. */
 uint64_t igu_recover(const uint64_t record[IGU_RECORD_WORDS], const uint16_t *h, size_t h_len, const uint16_t *g, size_t g_len,
                      const uint64_t *aux, size_t aux_len, size_t i, uint64_t vector[1]);
 

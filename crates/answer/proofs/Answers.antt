@@ -37,11 +37,11 @@ module _ (b : Built) (t : Tables) (out : List ℕ) where
   built-refused n = rw (ne-eqb (b .refusal) 0 n, printBuilt)
 
 module _ (o : Outcome) where
-  text-accepted : o .built .refusal ≡ 0 → textOf (o .built .unit) (o .tables) ≡ builtText o
+  pub text-accepted : o .built .refusal ≡ 0 → textOf (o .built .unit) (o .tables) ≡ builtText o
   unfolding builtText
   text-accepted e = rw (eq-eqb (o .built .refusal) 0 e, builtText)
 
-  text-refused : (o .built .refusal ≡ 0 → ⊥) → refusedText (o .built .refusal) (o .built .place) ≡ builtText o
+  pub text-refused : (o .built .refusal ≡ 0 → ⊥) → refusedText (o .built .refusal) (o .built .place) ≡ builtText o
   unfolding builtText
   text-refused n = rw (ne-eqb (o .built .refusal) 0 n, builtText)
 

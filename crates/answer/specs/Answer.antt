@@ -14,6 +14,10 @@ use Rattle.print.specs.Print.{textOf, refusedText}
 abbrev pub roomy : Tables
 roomy = lent (replicate 4096 0) (replicate 8192 0) (replicate 1025 0)
 
+-- bytes that every answer fits into
+abbrev pub pageSize : ℕ
+pageSize = 131072
+
 -- for what is no list
 abbrev pub inputText : List ℕ
 inputText = ascii "input\n"

@@ -7,6 +7,9 @@ ghost use Rattle.answer.specs.Answer.{roomy, builtText, answerOf};
 ghost use Rattle.answer.specs.Inner.Outcome.{printBuilt};
 use unit::Built;
 
+// Bytes that every answer fits into (`pageSize`).
+pub const PAGE: usize = 131072;
+
 // Prints what a build left.
 fn print_built(built: Built, h: &[u16], g: &[u16], aux: &[u64], out: &mut [u8]) -> usize
     ensures { λ r. ⌜ printed r (now (out .exit)) ≡ printBuilt built (lent (now (h .entry)) (now (g .entry)) (now (aux .entry))) (now (out .entry)) ⌝ }

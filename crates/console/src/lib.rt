@@ -1,7 +1,9 @@
-// The program's answer, written to standard output.
+// The program: standard input read whole, and its answer written to standard output.
 ghost use Prim.Native.Nat.{_≤_};
 ghost use mathlib.Core.Path.{_≡_};
-ghost use lib.ListN.{length};
+ghost use lib.ListN.{length, take};
+ghost use Rattle.io.specs.Counts.{Counts};
+ghost use Rattle.answer.specs.Answer.{pageSize, answerOf};
 use libc::STDIN_FILENO;
 use libc::STDOUT_FILENO;
 
@@ -12,21 +14,27 @@ fn room() -> [u8; 65537]
     [0; 65537]
 }
 
-// More than any answer takes: 4,096 + 8,192 numbers of at most five digits and 1,057 of at most twenty, each with a space.
-fn page() -> [u8; 131072]
-    ensures { λ r. ⌜ 131072 ≡ length r ⌝ }
+fn page() -> [u8; answer::PAGE]
+    ensures { λ r. ⌜ pageSize ≡ length r ⌝ }
 {
-    [0; 131072]
+    [0; answer::PAGE]
 }
 
-fn least(a: usize, b: usize) -> usize
-    ensures { λ r. ⌜ r ≤ b ⌝ }
+// ---- the answer
+
+// Puts the whole answer to a text in front of a page, and answers how many bytes it takes.
+fn fill(text: &[u8], out: &mut [u8]) -> usize
+    requires { ⌜ pageSize ≤ length (now out) ⌝ }
+    ensures { λ r. ⌜ Counts r (now (out .exit)) ⌝ }
+    ensures { λ r. ⌜ take r (now (out .exit)) ≡ answerOf (now (text .entry)) ⌝ }
 {
-    if a < b { a } else { b }
+    answer::answer(text, out)
 }
 
-fn write(text: &[u8], out: &mut [u8]) {
-    let k = least(answer::answer(text, out), out.len());
+fn write(text: &[u8], out: &mut [u8])
+    requires { ⌜ pageSize ≤ length (now out) ⌝ }
+{
+    let k = fill(text, out);
     io::write_all(STDOUT_FILENO, &out[..k]);
 }
 
@@ -36,9 +44,58 @@ pub fn answer(text: &[u8]) {
     write(text, &mut out);
 }
 
-// Writes the answer to standard input.
+// ---- the text
+
+// How many bytes were read, and whether no read failed.
+struct Reading {
+    count: usize,
+    good: bool,
+}
+
+// One read behind the first `from` bytes; where it fails the count stays.
+fn read_more(fd: i32, buf: &mut [u8], from: usize) -> Reading
+    requires { ⌜ from ≤ length (now buf) ⌝ }
+    ensures { λ r. ⌜ (from ≤ r .count) × (r .count ≤ length (now (buf .exit))) × (length (now (buf .exit)) ≡ length (now (buf .entry))) ⌝ }
+{
+    let got = libc::read(fd, &mut buf[from..]);
+    if got < 0 {
+        return Reading {
+            count: from,
+            good: false,
+        };
+    }
+    let more = io::count(got, &buf[from..]);
+    Reading {
+        count: from + more,
+        good: true,
+    }
+}
+
+// Reads until `buf` is full, the input ends, which a read of no bytes shows, or a read fails.
+fn read_all(fd: i32, buf: &mut [u8]) -> Reading
+    ensures { λ r. ⌜ Counts (r .count) (now (buf .exit)) ⌝ }
+{
+    let mut done = 0;
+    while done < buf.len() {
+        let next = read_more(fd, buf, done);
+        if next.count == done {
+            return next;
+        }
+        done = next.count;
+    }
+    Reading {
+        count: done,
+        good: true,
+    }
+}
+
+// Writes the answer to standard input. What was not read whole is no list, as the empty text is none.
 pub fn run() {
     let mut input = room();
-    let n = io::read_full(STDIN_FILENO, &mut input);
-    answer(&input[..n]);
+    let list = read_all(STDIN_FILENO, &mut input);
+    if !list.good {
+        answer(b"");
+        return;
+    }
+    answer(&input[..list.count]);
 }

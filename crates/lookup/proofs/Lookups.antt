@@ -3,7 +3,7 @@ use Prim.Native.Nat.{ℕ, zero, suc, _+_, _-_, _*_, _/_, _%_, _^_, _≤_, _<_}
 use native.Mathlib.Nat.{mul-comm}
 use native.Mathlib.Omega.{arith}
 use mathlib.Core.Path.{_≡_, refl, sym, ap, ap₂, _∙_}
-use mathlib.Core.Bool.{true, false}
+use mathlib.Core.Bool.{Bool, true, false}
 use mathlib.Core.List.{List}
 use borrow.Author.Tests.{lt-ltb, le-ltb, le-leb, lt-leb, eq-eqb, ne-eqb}
 use lib.ListN.{getD}
@@ -46,7 +46,7 @@ module _ (u : Record) (aux : List ℕ) (x : ℕ) where
   pub compared-other : (i : ℕ) → (i ≡ 0 → ⊥) → i ≤ u .k → (getD aux i 0 ≡ wordIn u x → ⊥) → found 0 ≡ compared u aux x i
   unfolding compared
   compared-other zero n h d = absurd (n refl)
-  compared-other (suc i) n h d = rw (le-leb (suc i) (u .k) h, compared) (rw (ne-eqb (getD aux (suc i) 0) (wordIn u x) d))
+  compared-other (suc i) n h d = rw (le-leb (suc i) (u .k) h, compared) (ap (λ (same : Bool). elim same [ true ↦ found (suc i) | false ↦ found 0 ]) (sym (ne-eqb (getD aux (suc i) 0) (wordIn u x) d)))
 
   pub compared-same : (i : ℕ) → (i ≡ 0 → ⊥) → i ≤ u .k → getD aux i 0 ≡ wordIn u x → found i ≡ compared u aux x i
   unfolding compared

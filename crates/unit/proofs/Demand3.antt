@@ -1,14 +1,14 @@
--- Demand 3, of both builds; and refuted of a build that refuses everything and of one with an invented tries figure. Assumes nothing.
+-- Demand 3, of both builds; and refuted, in both forms, of a build that refuses everything and of one with an invented tries figure (SCOPE 17.4). Assumes nothing.
 use Prim.Native.Nat.{ℕ, _+_, _-_, _^_, _≤_}
 use native.Mathlib.Omega.{arith}
 use mathlib.Core.Path.{_≡_, refl}
-use mathlib.Core.List.{List, [], _∷_, map}
+use mathlib.Core.List.{List, [], _∷_}
 use lib.ListN.{length, getD, take, drop, replicate, length-replicate}
 use lib.Seq.{take-at}
 use Rattle.vectors.specs.declared.Kind.{Kind}
 use Rattle.vectors.specs.declared.Kind.the-variants.{One}
-use Rattle.vectors.specs.declared.Part.the-variants.{Row}
 use Rattle.vectors.specs.declared.Variable.{Variable}
+use Rattle.vectors.specs.Bounds.{maxVariables}
 use Rattle.vectors.specs.Variable.{kindsOf}
 use Rattle.choice.specs.Choice.{choose}
 use Rattle.rows.specs.Care.{Care}
@@ -22,10 +22,11 @@ use Rattle.build.specs.declared.Refusal.{Refusal}
 use Rattle.record.specs.Tables.{Tables}
 use Rattle.unit.specs.Demand2.{ChosenBuild, GivenBuild}
 use Rattle.unit.specs.Demand3.{Shifted, displacements, Demand3, Demand3Chosen, Demand3Given}
-use Rattle.unit.specs.Samples.{S, nines}
+use Rattle.unit.specs.Samples.{S, nines, given}
 use Rattle.build.proofs.Holding.Ends.{acceptedOutcome, outcome-accepted, accepted-outcome, placing-rows}
 use Rattle.build.proofs.Holding.Cares.{cares-columns}
 use Rattle.unit.proofs.Tries.{tries-one}
+use Rattle.unit.proofs.Demand2.{takenOfS}
 
 module _ (n1 : ℕ) (ks : List Kind) (cells : ℕ) (vs : List ℕ) where
   abbrev cs : List Care
@@ -88,32 +89,42 @@ chosen-demand-3 n degree cells vs t =
 -- the build whose variables the caller gives
 pub given-demand-3 : Demand3Given buildGiven
 unfolding buildGiven
-given-demand-3 n variables p n1 cells vs t =
+given-demand-3 n variables p n1 cells vs t slots =
     outcome-demand-3 n1 (kindsOf (take p variables)) cells vs (givenRefusal n p n1 (kindsOf (take p variables)) cells vs t) n t
 
--- ---- refuted of two wrong builds
+-- ---- refuted of two wrong builds, by lists in which rows are shifted
 
--- 16 alone, n = 6, degree 1, L = 2: the spread condition holds, and the cells number k plus the columns
+-- 0 to 4 with n = 3, degree 1, L = 7: chosen are x_1, x_2 for rows and x_3 for columns
+abbrev pub zeroTo4 : List ℕ
+zeroTo4 = 0 ∷ 1 ∷ 2 ∷ 3 ∷ 4 ∷ []
+
+-- rows 1, 2 and 3 are shifted
+pub zeroTo4-shifted : displacements 2 (buildChosen 3 1 7 zeroTo4 (nines 4 7 6)) ≡ 0 ∷ 2 ∷ 3 ∷ 4 ∷ []
+unfolding buildChosen
+zeroTo4-shifted = refl
+
+-- the list is spread out (SCOPE 16.4), and the cells number k plus the columns
 pub refuses-everything-fails : (build : ChosenBuild) → ((n degree cells : ℕ) (vs : List ℕ) (t : Tables) → build n degree cells vs t .built .refusal ≡ 0 → ⊥) → Demand3Chosen build → ⊥
 unfolding chosenRefusal choose spread caresFrom
 refuses-everything-fails build never d =
-    never 6 1 2 (16 ∷ []) (nines 1 2 2)
-    (d 6 1 2 (16 ∷ []) (nines 1 2 2) .always-fits refl (placing.spread-law 1 (caresFrom 1 0 [] (16 ∷ [])) .0 refl) (omega arith))
+    never 3 1 7 zeroTo4 (nines 4 7 6)
+    (d 3 1 7 zeroTo4 (nines 4 7 6) .always-fits refl (placing.spread-law 5 (caresFrom 1 2 (chosenKinds 3 1 zeroTo4) zeroTo4) .0 refl) (omega arith))
 
--- 0, 1, 2, 3 with n = 3, rows x_1, x_2, column x_3, L = 6 (SCOPE 15.8)
+-- 0 to 3 with n = 3, rows by x_1 and x_2, columns by x_3, L = 6: spread out, with displacements 0, 1, 2 and 3 (SCOPE 15.8)
+abbrev pub zeroTo3 : List ℕ
+zeroTo3 = 0 ∷ 1 ∷ 2 ∷ 3 ∷ []
+
+abbrev pub firstThree : List Variable
+firstThree = given (One 1 ∷ One 2 ∷ One 3 ∷ [])
+
 pub refuses-everything-given-fails : (build : GivenBuild)
-    → ((n : ℕ) (variables : List Variable) (p n1 cells : ℕ) (vs : List ℕ) (t : Tables) → build n variables p n1 cells vs t .built .refusal ≡ 0 → ⊥)
+    → ((n : ℕ) (variables : List Variable) (p n1 cells : ℕ) (vs : List ℕ) (t : Tables) → length variables ≡ maxVariables
+    → build n variables p n1 cells vs t .built .refusal ≡ 0 → ⊥)
     → Demand3Given build → ⊥
 unfolding givenRefusal spread caresFrom
 refuses-everything-given-fails build never d =
-    never 3 variables 3 2 6 vs (nines 4 6 5)
-    (d 3 variables 3 2 6 vs (nines 4 6 5) .always-fits refl (placing.spread-law 4 (caresFrom 1 2 (kindsOf variables) vs) .0 refl) (omega arith))
-  where
-    variables : List Variable
-    variables = map (λ k. record { kind = k; part = Row }) (One 1 ∷ One 2 ∷ One 3 ∷ [])
-
-    vs : List ℕ
-    vs = 0 ∷ 1 ∷ 2 ∷ 3 ∷ []
+    never 3 firstThree 3 2 6 zeroTo3 (nines 4 6 5) refl
+    (d 3 firstThree 3 2 6 zeroTo3 (nines 4 6 5) refl .always-fits refl (placing.spread-law 4 (caresFrom 1 2 (kindsOf (take 3 firstThree)) zeroTo3) .0 refl) (omega arith))
 
 -- the outcome with another tries figure
 abbrev pub withTries : ℕ → Outcome → Outcome
@@ -137,17 +148,33 @@ withTries tries o =
       tables = o .tables;
     }
 
--- our build with any other figures: those that demand 3 admits are ours
+-- our builds with any other figures: those that demand 3 admits are ours
 pub tries-forced : (tries : ℕ → ℕ → ℕ → List ℕ → Tables → ℕ)
     → Demand3Chosen (λ n degree cells vs t. withTries (tries n degree cells vs t) (buildChosen n degree cells vs t))
     → (n degree cells : ℕ) (vs : List ℕ) (t : Tables) → buildChosen n degree cells vs t .built .refusal ≡ 0
     → tries n degree cells vs t ≡ buildChosen n degree cells vs t .built .unit .tries
 tries-forced tries d n degree cells vs t a = tries-one _ _ _ _ _ _ (d n degree cells vs t .shifted a) (chosen-demand-3 n degree cells vs t .shifted a)
 
--- so with one invented figure: 16 alone has 1 try, and S with degree 2 has 15
+pub tries-forced-given : (tries : ℕ → List Variable → ℕ → ℕ → ℕ → List ℕ → Tables → ℕ)
+    → Demand3Given (λ n variables p n1 cells vs t. withTries (tries n variables p n1 cells vs t) (buildGiven n variables p n1 cells vs t))
+    → (n : ℕ) (variables : List Variable) (p n1 cells : ℕ) (vs : List ℕ) (t : Tables) → length variables ≡ maxVariables
+    → buildGiven n variables p n1 cells vs t .built .refusal ≡ 0
+    → tries n variables p n1 cells vs t ≡ buildGiven n variables p n1 cells vs t .built .unit .tries
+tries-forced-given tries d n variables p n1 cells vs t slots a =
+    tries-one _ _ _ _ _ _ (d n variables p n1 cells vs t slots .shifted a) (given-demand-3 n variables p n1 cells vs t slots .shifted a)
+
+-- so with one invented figure: 0 to 4 have 13 tries, and S with degree 2 has 15; rows of both are shifted
 pub invented-tries-fails : (tries : ℕ) → Demand3Chosen (λ n degree cells vs t. withTries tries (buildChosen n degree cells vs t)) → ⊥
 unfolding buildChosen
 invented-tries-fails tries d =
-    let a : tries ≡ 1 = tries-forced (λ n degree cells vs t. tries) d 6 1 1 (16 ∷ []) (nines 1 1 2) refl in
+    let a : tries ≡ 13 = tries-forced (λ n degree cells vs t. tries) d 3 1 7 zeroTo4 (nines 4 7 6) refl in
     let b : tries ≡ 15 = tries-forced (λ n degree cells vs t. tries) d 6 2 7 S (nines 4 7 8) refl in
+    omega arith
+
+-- 0 to 3 as above have 10 tries, and S by the three variables that degree 2 takes has 15
+pub invented-tries-given-fails : (tries : ℕ) → Demand3Given (λ n variables p n1 cells vs t. withTries tries (buildGiven n variables p n1 cells vs t)) → ⊥
+unfolding buildGiven
+invented-tries-given-fails tries d =
+    let a : tries ≡ 10 = tries-forced-given (λ n variables p n1 cells vs t. tries) d 3 firstThree 3 2 6 zeroTo3 (nines 4 6 5) refl refl in
+    let b : tries ≡ 15 = tries-forced-given (λ n variables p n1 cells vs t. tries) d 6 takenOfS 3 2 7 S (nines 4 7 8) refl refl in
     omega arith

@@ -41,7 +41,7 @@ abbrev pub Demand2Chosen : ChosenBuild → Lookup → Recovery → Type 0
 Demand2Chosen build lookup recovery =
     (n degree cells : ℕ) (vs : List ℕ) (t : Tables) → Demand2 lookup recovery n vs (build n degree cells vs t)
 
--- the caller's variables stand in 24 places
+-- the caller's variables stand in 24 slots
 abbrev pub Demand2Given : GivenBuild → Lookup → Recovery → Type 0
 Demand2Given build lookup recovery =
     (n : ℕ) (variables : List Variable) (p n1 cells : ℕ) (vs : List ℕ) (t : Tables) → length variables ≡ maxVariables

@@ -7,12 +7,13 @@ use lib.ListN.{length, getD, take, replicate}
 use Rattle.lists.specs.First.{has}
 use Rattle.vectors.specs.declared.Kind.{Kind}
 use Rattle.vectors.specs.declared.Variable.{Variable}
+use Rattle.vectors.specs.Bounds.{maxVariables}
 use Rattle.vectors.specs.Variable.{kindsOf}
 use Rattle.rows.specs.Care.{Care, weightOf}
 use Rattle.rows.specs.Demand.{Falling, Once, Smallest, Bounded, triesOf, boundOf, Spread}
 use Rattle.build.specs.Build.{rowsShare, Outcome, caresFrom, chosenKinds, chosenRefusal, givenRefusal}
 use Rattle.build.specs.declared.Refusal.{Refusal}
-use Rattle.record.specs.Tables.{Tables, over}
+use Rattle.record.specs.Tables.{Tables}
 use Rattle.unit.specs.Demand2.{ChosenBuild, GivenBuild}
 
 -- the displacements h of the rows below `rows`, and the tries, with the vectors cs and the cells empty at the start
@@ -53,7 +54,8 @@ Demand3Chosen build =
     (n degree cells : ℕ) (vs : List ℕ) (t : Tables)
     → Demand3 (chosenRefusal n degree (chosenKinds n degree vs) cells vs t) (rowsShare (length (chosenKinds n degree vs))) (chosenKinds n degree vs) cells vs (build n degree cells vs t)
 
+-- the caller's variables stand in 24 slots
 abbrev pub Demand3Given : GivenBuild → Type 0
 Demand3Given build =
-    (n : ℕ) (variables : List Variable) (p n1 cells : ℕ) (vs : List ℕ) (t : Tables)
+    (n : ℕ) (variables : List Variable) (p n1 cells : ℕ) (vs : List ℕ) (t : Tables) → length variables ≡ maxVariables
     → Demand3 (givenRefusal n p n1 (kindsOf (take p variables)) cells vs t) n1 (kindsOf (take p variables)) cells vs (build n variables p n1 cells vs t)

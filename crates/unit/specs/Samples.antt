@@ -1,21 +1,21 @@
 -- The sample units of SCOPE 15, computed: one table, a field for each case, and one claim, at the end.
 use mathlib.Core.Path.{_≡_, refl}
-use mathlib.Core.Bool.{true}
+use mathlib.Core.Bool.{true, false}
 use mathlib.Core.List.{List, [], _∷_, _++_, map}
-use Prim.Native.Nat.{ℕ}
+use Prim.Native.Nat.{ℕ, zero, suc}
 use lib.IntN.{pos, negsuc}
 use lib.ListN.{take, replicate}
 use Rattle.vectors.specs.declared.Kind.{Kind}
 use Rattle.vectors.specs.declared.Kind.the-variants.{One, Two}
 use Rattle.vectors.specs.declared.Part.the-variants.{Row, Column}
 use Rattle.vectors.specs.declared.Variable.{Variable}
-use Rattle.choice.specs.Choice.{choose, left}
+use Rattle.choice.specs.Choice.{ones, left, apart, choose}
 use Rattle.rows.specs.Demand.{spread}
 use Rattle.vectors.specs.Bounds.{maxVariables}
 use Rattle.vectors.specs.Variable.{blankVariable}
 use Rattle.record.specs.Record.{blankRecord}
-use Rattle.record.specs.Tables.{Tables, lent}
-use Rattle.build.specs.Build.{Outcome, buildChosen, buildGiven, caresFrom, after}
+use Rattle.record.specs.Tables.{Tables}
+use Rattle.build.specs.Build.{Outcome, buildChosen, buildGiven, caresFrom}
 use Rattle.lookup.specs.Lookup.{found, lookupOf}
 use Rattle.recover.specs.Recover.{recovered, recoverOf}
 
@@ -33,14 +33,20 @@ row k = record { kind = k; part = Row }
 abbrev column : Kind → Variable
 column k = record { kind = k; part = Column }
 
--- a caller's variables, all marked row, in 24 places
-abbrev given : List Kind → List Variable
+-- a caller's variables, all marked row, in 24 slots
+abbrev pub given : List Kind → List Variable
 given ks = take maxVariables (map row ks ++ replicate maxVariables blankVariable)
 
 -- the pairs left after the first variable, the first two, ..
 abbrev lefts : List ℕ → List Kind → List Kind → List ℕ
 lefts vs taken [] = []
 lefts vs taken (k ∷ ks) = left vs (taken ++ (k ∷ [])) ∷ lefts vs (taken ++ (k ∷ [])) ks
+
+-- every way to take m of the variables, in their order
+abbrev takes : ℕ → List Kind → List (List Kind)
+takes zero ks = [] ∷ []
+takes (suc m) [] = []
+takes (suc m) (k ∷ ks) = map (λ taken. k ∷ taken) (takes m ks) ++ takes (suc m) ks
 
 -- the unit that the program prints, lent a word more in each table; and refusals that leave tables
 abbrev printed : ℕ → Outcome
@@ -56,6 +62,8 @@ pub record Table : Type 0 where
   -- SCOPE 15.2: four single inputs, and the pairs that each leaves
   pub degree-1 : choose maxVariables 6 1 S ≡ One 2 ∷ One 3 ∷ One 4 ∷ One 5 ∷ []
   pub degree-1-left : lefts S [] (choose maxVariables 6 1 S) ≡ 9 ∷ 3 ∷ 1 ∷ 0 ∷ []
+  -- SCOPE 15.2: no three are enough: of the 20 ways to take three of the six inputs, each leaves two vectors that agree
+  pub no-three : map (apart S) (takes 3 (ones 6 1)) ≡ replicate 20 false
   -- SCOPE 15.3: the unit that the program prints
   pub degree-2 : printed 7 ≡ record {
     built = record {
@@ -109,8 +117,8 @@ pub record Table : Type 0 where
     };
   }
   -- SCOPE 15.7: with fewer cells
-  pub given-7 : table41 7 .built ≡ refusal 13 6 (nines 0 0 0) .built
-  pub given-5 : table41 5 .built ≡ refusal 13 3 (nines 0 0 0) .built
+  pub given-7 : table41 7 ≡ refusal 13 6 (record { h = replicate 8 0 ++ (9 ∷ []); g = replicate 7 0 ++ (9 ∷ 9 ∷ []); aux = replicate 8 0 ++ (9 ∷ []) })
+  pub given-5 : table41 5 ≡ refusal 13 3 (record { h = replicate 8 0 ++ (9 ∷ []); g = replicate 5 0 ++ replicate 4 9; aux = replicate 8 0 ++ (9 ∷ []) })
   -- SCOPE 15.8: a list that is spread out
   pub spread-out : buildGiven 3 (given (One 1 ∷ One 2 ∷ One 3 ∷ [])) 3 2 6 (0 ∷ 1 ∷ 2 ∷ 3 ∷ []) (nines 4 6 5) ≡ record {
     built = record {
@@ -157,10 +165,11 @@ pub record Table : Type 0 where
   pub empty : buildChosen 6 1 1 [] (nines 1 1 1) ≡ refusal 3 0 (nines 1 1 1)
 
 pub samples : Table
-unfolding choose left buildChosen buildGiven lookupOf recoverOf spread caresFrom
+unfolding ones left apart choose buildChosen buildGiven lookupOf recoverOf spread caresFrom
 samples = record {
   degree-1 = refl;
   degree-1-left = refl;
+  no-three = refl;
   degree-2 = refl;
   cells-6 = refl;
   lookup-6 = refl;

@@ -41,7 +41,7 @@ add-number-at-2 : tie.Need-add-number-at-2
 add-number-at-2 c = omega (arith, second (c .before) .low, start (c .before .before .before) .pre .0)
 
 add-list : tie.Need-add-list
-add-list c = omega (arith, third (c .before) .low, start (c .before .before .before .before .before) .pre .0)
+add-list c = omega (arith, second (c .before .before .before) .low, third (c .before) .low, start (c .before .before .before .before .before) .pre .0)
 
 list-requires : tie.Need-list-requires
 list-requires c κs =

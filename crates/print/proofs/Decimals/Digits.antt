@@ -64,3 +64,7 @@ length-below (suc d) n h = go (ltb n 10) refl (λ l. length-below d (n / 10) (le
 -- a word has at most 20
 pub length-word : (n : ℕ) → n < 2 ^ 64 → length (decimal n) ≤ 20
 length-word n h = length-below 19 n (omega arith)
+
+-- a number below 2^16 has at most five
+pub length-half : (n : ℕ) → n < 2 ^ 16 → length (decimal n) ≤ 5
+length-half n h = length-below 4 n (omega arith)

@@ -18,7 +18,7 @@ pub fitted-short : (text out : List ℕ) → length out < length text → printe
 unfolding fitted
 fitted-short text out h = rw (lt-leb (length text) (length out) h, fitted)
 
-fitted-long : (text out : List ℕ) → length text ≤ length out → printed (length text) (text ++ drop (length text) out) ≡ fitted text out
+pub fitted-long : (text out : List ℕ) → length text ≤ length out → printed (length text) (text ++ drop (length text) out) ≡ fitted text out
 unfolding fitted
 fitted-long text out h = rw (le-leb (length text) (length out) h, fitted)
 

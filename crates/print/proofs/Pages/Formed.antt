@@ -1,11 +1,11 @@
 -- What the printer knows of a well-formed unit: how many rows, exact masks, and the unit's text as the code makes it. Assumes nothing.
 use Prim.Native.Nat.{ℕ, zero, suc, _+_, _*_, _%_, _^_, _≤_, _<_}
 use native.Mathlib.Omega.{arith}
-use native.Mathlib.Nat.{mod-eq-of-lt, one-mul}
+use native.Mathlib.Nat.{mod-eq-of-lt, mod-lt, one-mul}
 use native.Mathlib.Numerals.{add-one}
 use mathlib.Core.Path.{_≡_, _∙_}
 use mathlib.Core.Bool.{false, _||_}
-use mathlib.Core.List.{List, map}
+use mathlib.Core.List.{List, [], _∷_, map}
 use borrow.Author.Tests.{ltb-false, leb-false}
 use lib.Bits.{xor-lt}
 use lib.Dec.{eqb, leb, ltb}
@@ -44,6 +44,11 @@ mask-exact n h (Two i j) f =
     let l = leb-false j i (b .1) in
     let m = ltb-false n j (a .1) in
     mod-eq-of-lt (xor-lt maxInputs (placeOf i) (placeOf j) (place-lt maxInputs i (omega arith)) (place-lt maxInputs j (omega arith)))
+
+-- the masks of variables that are not faulty are words
+pub masks-low : (n : ℕ) → n ≤ maxInputs → (ks : List Kind) → All (λ k. faulty n k ≡ false) ks → All (λ x. x < 2 ^ 64) (map maskOf ks)
+masks-low n h [] a = tt
+masks-low n h (k ∷ ks) a = (rw (mask-exact n h k (a .0)) at (mod-lt (maskOf k) {m = 2 ^ maxInputs} (omega arith)), masks-low n h ks (a .1))
 
 masks-exact : (n : ℕ) → n ≤ maxInputs → (ks : List Kind) → All (λ k. faulty n k ≡ false) ks → masksOf ks ≡ map maskOf ks
 masks-exact n h ks a = map-same (λ k. maskOf k % 2 ^ maxInputs) maskOf (λ k. faulty n k ≡ false) (mask-exact n h) ks a

@@ -40,7 +40,7 @@ some c = from-some _ _ _ _ (λ q. c .if1 .left (number-is c ∙ q))
 row-held : (c : tie.After-low) → c .low .result < length (c .before .before .before .before .before .before .before .before .args .h .now)
 row-held c =
     let s = c .before .before .before .before .before .before .before .before in
-    rw (c .low .ensures) (lt-of-lt-of-le (mod-lt (getD (s .args .aux .now) (s .args .i) 0) (pow-pos (s .args .unit .n1))) (facts s .rows-held))
+    rw (c .low .ensures) (lt-of-lt-of-le (mod-lt _ (pow-pos (s .args .unit .n1))) (facts s .rows-held))
 
 mul-word : tie.Need-mul-word
 mul-word c = omega (arith, word-held (c .before .before .before), c .before .before .before .good .1 .1 .1 .0)

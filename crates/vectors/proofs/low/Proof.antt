@@ -1,5 +1,5 @@
 -- `vectors::low` meets its contract. Assumes nothing.
-use Prim.Native.Nat.{ℕ, _%_, _*_, _^_, _<_, _≤_}
+use Prim.Native.Nat.{ℕ, _%_, _*_, _^_, _<_}
 use mathlib.Core.Path.{_≡_, sym, ap, _∙_}
 use native.Mathlib.Nat.{one-mul, mod-eq-of-lt, lt-of-lt-of-le}
 use native.Mathlib.Omega.{arith}

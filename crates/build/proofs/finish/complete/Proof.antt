@@ -4,7 +4,7 @@ use native.Mathlib.Nat.{one-mul}
 use native.Mathlib.Numerals.{add-one}
 use native.Mathlib.Omega.{arith}
 use mathlib.Core.Path.{_≡_, sym, _∙_}
-use lib.ListN.{length, take}
+use lib.ListN.{length}
 use lib.Pow.{shl-exact}
 use lib.Seq.{length-take-le}
 use Rattle.vectors.specs.Bounds.{maxInputs}

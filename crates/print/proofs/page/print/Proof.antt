@@ -1,5 +1,5 @@
 -- `print::page::print` meets its contract. Assumes nothing.
-use Prim.Native.Nat.{_+_, _*_, _%_, _^_, ℕ}
+use Prim.Native.Nat.{ℕ, _*_, _%_, _^_}
 use Rattle.vectors.specs.Bounds.{maxInputs}
 use native.Mathlib.Omega.{arith}
 use mathlib.Core.Path.{_≡_, sym, ap, _∙_}
@@ -59,11 +59,6 @@ cells-held c =
     let s = at-formed c in
     length-take-le (s .args .unit .cells) (s .args .g .now) (facts c .cells-held)
 
-words-held : (c : tie.Else1) → let s = at-formed c in length (take (s .args .unit .k + 1) (s .args .aux .now)) ≡ s .args .unit .k + 1
-words-held c =
-    let s = at-formed c in
-    length-take-le (s .args .unit .k + 1) (s .args .aux .now) (omega (arith, facts c .words-held))
-
 returns : tie.Need-returns
 returns c =
     let s = c .before .before .before .before .before .before in
@@ -93,7 +88,7 @@ slice-aggregate-fit-page-4 : tie.Need-slice-aggregate-fit-page-4
 slice-aggregate-fit-page-4 c = sym (cells-held (c .before .before .before .before .before .before))
 
 slice-aggregate-fit-page-5 : tie.Need-slice-aggregate-fit-page-5
-slice-aggregate-fit-page-5 c = sym (words-held (c .before .before .before .before .before .before .before))
+slice-aggregate-fit-page-5 c = sym (length-take-le _ _ (omega (arith, facts (c .before .before .before .before .before .before .before) .words-held)))
 
 fit-page-requires : tie.Need-fit-page-requires
 fit-page-requires c κs =
@@ -105,7 +100,7 @@ fit-page-requires c κs =
       omega (arith, masks-held (c .before .before .before .before .before .before .before), facts e .bounds .few),
       omega (arith, rows-held e, r .0, r .1),
       omega (arith, cells-held e, w .1),
-      omega (arith, words-held e, w .0),
+      omega (arith, sym (slice-aggregate-fit-page-5 (c .before .before)), w .0),
     )
 
 returns-2 : tie.Need-returns-2

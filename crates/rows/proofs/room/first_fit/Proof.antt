@@ -15,7 +15,7 @@ use Rattle.rows.proofs.room.first_fit.Statement.{statement}
 use Rattle.rows.proofs.room.first_fit.Tie as tie
 
 abbrev Inv-loop : tie.InvT-loop
-Inv-loop aux g taken first c d₀ d = (c + d ≤ max c (length g + 64)) × Passed g (chain aux first) d
+Inv-loop aux g taken first c d₀ d = Passed g (chain aux first) d × (c + d ≤ max c (length g + 64))
 
 abbrev μ-loop : tie.MeasureT-loop
 μ-loop aux g taken first c d₀ d = length g - d
@@ -30,7 +30,7 @@ within c =
     inside-yes _ _ _ _ (chain-pos _ (s .pre .0) _ (s .pre .1 .0 .0) (s .pre .1 .0 .1)) (c .before .before .top .ensures) (c .loop-test .taken)
 
 loop-holds : tie.Need-loop-holds Inv-loop μ-loop
-loop-holds c = (omega arith, λ e l. absurd (omega arith))
+loop-holds c = ((λ e l. absurd (omega arith)), omega arith)
 
 add-loop : tie.Need-add-loop Inv-loop μ-loop
 add-loop c = let s = c .before .before .before .before .before in omega (arith, c .before .top .ok, s .pre .1 .0 .2)
@@ -46,7 +46,7 @@ open-low c =
     let l = c .before .before .before in
     let s = l .before .before .before .before .before in
     let b : c .before .shut .result < 2 ^ 64 = omega (arith, c .before .shut .ok) in
-    block-low _ _ (s .pre .1 .1) (s .pre .1 .0 .2) _ _ (within (c .before .before)) (l .loop .inv .1) _ b (c .before .shut .ensures)
+    block-low _ _ (s .pre .1 .1) (s .pre .1 .0 .2) _ _ (within (c .before .before)) (l .loop .inv .0) _ b (c .before .shut .ensures)
     (chain-pos _ (s .pre .0) _ (s .pre .1 .0 .0) (s .pre .1 .0 .1)) _ (l .before .top .ensures) (c .if1 .taken)
 
 open-found : (c : tie.Then1 Inv-loop μ-loop) → let l = c .before .before .before in
@@ -58,7 +58,7 @@ open-found c =
     let l = c .before .before .before in
     let s = l .before .before .before .before .before in
     let b : c .before .shut .result < 2 ^ 64 = omega (arith, c .before .shut .ok) in
-    block-found _ _ (s .pre .1 .1) (s .pre .1 .0 .2) _ _ (within (c .before .before)) (l .loop .inv .1) _ b (c .before .shut .ensures)
+    block-found _ _ (s .pre .1 .1) (s .pre .1 .0 .2) _ _ (within (c .before .before)) (l .loop .inv .0) _ b (c .before .shut .ensures)
     (chain-pos _ (s .pre .0) _ (s .pre .1 .0 .0) (s .pre .1 .0 .1)) _ (l .before .top .ensures) (c .if1 .taken)
 
 open-past : (c : tie.Then1 Inv-loop μ-loop) → let l = c .before .before .before in
@@ -70,7 +70,7 @@ open-past c =
     let l = c .before .before .before in
     let s = l .before .before .before .before .before in
     let b : c .before .shut .result < 2 ^ 64 = omega (arith, c .before .shut .ok) in
-    block-past _ _ (s .pre .1 .1) (s .pre .1 .0 .2) _ _ (within (c .before .before)) (l .loop .inv .1) _ b (c .before .shut .ensures)
+    block-past _ _ (s .pre .1 .1) (s .pre .1 .0 .2) _ _ (within (c .before .before)) (l .loop .inv .0) _ b (c .before .shut .ensures)
     (chain-pos _ (s .pre .0) _ (s .pre .1 .0 .0) (s .pre .1 .0 .1)) _ (l .before .top .ensures) (c .if1 .taken)
 
 cast-e : tie.Need-cast-e Inv-loop μ-loop
@@ -102,8 +102,8 @@ loop-again c =
     let l = c .before .before .before in
     let s = l .before .before .before .before .before in
     let b : c .before .shut .result < 2 ^ 64 = omega (arith, c .before .shut .ok) in (
+      block-none _ _ (s .pre .1 .1) (s .pre .1 .0 .2) _ _ (within (c .before .before)) (l .loop .inv .0) _ b (c .before .shut .ensures) (c .if1 .left),
       omega (arith, c .before .before .loop-test .taken),
-      block-none _ _ (s .pre .1 .1) (s .pre .1 .0 .2) _ _ (within (c .before .before)) (l .loop .inv .1) _ b (c .before .shut .ensures) (c .if1 .left),
     )
 
 none-left : (c : tie.After-loop Inv-loop μ-loop) → let l = c .before in
@@ -112,7 +112,7 @@ none-left : (c : tie.After-loop Inv-loop μ-loop) → let l = c .before in
 none-left c =
     let l = c .before in
     let s = l .before .before .before .before .before in
-    passed-all _ _ _ _ (chain-pos _ (s .pre .0) _ (s .pre .1 .0 .0) (s .pre .1 .0 .1)) (l .before .top .ensures) (c .loop-test .left) (l .loop .inv .1)
+    passed-all _ _ _ _ (chain-pos _ (s .pre .0) _ (s .pre .1 .0 .0) (s .pre .1 .0 .1)) (l .before .top .ensures) (c .loop-test .left) (l .loop .inv .0)
 
 returns-3 : tie.Need-returns-3 Inv-loop μ-loop
 returns-3 c = sym (none-left (c .before))

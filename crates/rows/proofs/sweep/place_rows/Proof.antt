@@ -95,12 +95,12 @@ undo-requires c κs =
     at-level (level-row r) .stuck (r .place-row .ensures .0) _ (c .before .before .before .fit2 .given .1) .within
 
 same-length : tie.Need-same-length Inv-loop μ-loop
-same-length c = let r = c .before .before .before .before .before .before .before .before .before .before .before .before .before .before .before .before in c .before .before .clear16 .kept .0 ∙ r .place-row .kept .1 .0 ∙ met (level-row r) .loop .inv .1
+same-length c = let r = c .before .before .before .before .before .before .before .before .before .before .before .before .before .before .before .before in omega (arith, c .before .before .clear16 .kept .0, r .place-row .kept .1 .0, met (level-row r) .loop .inv .1)
 
 same-length-2 : tie.Need-same-length-2 Inv-loop μ-loop
 same-length-2 c =
     let r = c .before .before .before .before .before .before .before .before .before .before .before .before .before .before .before .before in
-    c .before .before .before .before .before .before .undo .kept .1 .1 .0 ∙ r .place-row .kept .1 .1 .0 ∙ met (level-row r) .loop .inv .2
+    omega (arith, c .before .before .clear16 .kept .0, c .before .before .before .before .before .before .undo .kept .1 .1 .0, r .place-row .kept .1 .1 .0, met (level-row r) .loop .inv .2)
 
 returns : tie.Need-returns Inv-loop μ-loop
 returns c =

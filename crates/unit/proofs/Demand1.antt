@@ -1,0 +1,9 @@
+pub mod Ladder
+pub mod Entries
+pub mod Checks
+pub mod Stuck
+pub mod Builds
+pub mod Formed
+pub mod Calls
+pub mod One
+pub mod Wrong
