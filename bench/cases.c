@@ -168,23 +168,60 @@ static void make_damaged_wide(struct random *r, struct call *c)
     give_room(r, c);
 }
 
+/* How many words a table has, from fewest to most: such that its last word ends a block of the file, or one off, or another number. */
+static size_t words_in_blocks(struct random *r, size_t in_a_block, size_t fewest, size_t most)
+{
+    switch (random_below(r, 5)) {
+    case 0: return fewest;
+    case 1: return most;
+    case 2: return random_between(r, fewest, most);
+    }
+    size_t ends = in_a_block * random_between(r, 1, most / in_a_block);
+    return least(ends - 1 + random_below(r, 3), most);
+}
+
+static void not_built(struct random *r, struct call *c, size_t variables, size_t cells, size_t vectors)
+{
+    c->given = true;
+    c->n = one_in(r, 4) ? 64 : random_between(r, 1, 64);
+    size_t most = least(c->n, variables);
+    give_variables(r, c, one_in(r, 3) ? most : random_below(r, most + 1));
+    c->L = words_in_blocks(r, 252, 1, cells);
+    c->k = words_in_blocks(r, 63, 2, vectors + 1) - 1;
+    for (size_t i = 0; i < c->k; i++)
+        c->vectors[i] = random_word(r) & inputs(c->n);
+    give_lengths(r, c);
+}
+
+static void make_not_built(struct random *r, struct call *c)
+{
+    not_built(r, c, 12, 600, 200);
+}
+
+static void make_any_size(struct random *r, struct call *c)
+{
+    not_built(r, c, VARIABLES, CELLS_AT_MOST, VECTORS_AT_MOST);
+}
+
 const struct kind kinds[] = {
-    {"small lists, chosen", 22000, make_small_chosen, true, 0},
-    {"small lists, given", 22000, make_small_given, true, 0},
-    {"few cells", 6000, make_few_cells, true, 0},
-    {"near vectors", 6000, make_near, false, 0},
-    {"mid-size lists", 500, make_middle, false, 1},
-    {"large lists", 60, make_large, false, 2},
-    {"many variables", 200, make_many_variables, false, 1},
-    {"faulty lists", 6000, make_faulty_list, false, 0},
-    {"faulty variables", 6000, make_faulty_variable, false, 0},
-    {"dependent variables", 6000, make_dependent, false, 0},
-    {"too few variables", 5000, make_too_few, false, 0},
-    {"numbers out of bounds", 4000, make_bad_number, false, 0},
-    {"short slices", 5000, make_short_slice, false, 0},
-    {"several faults", 5000, make_several, false, 0},
-    {"damaged units", 6000, make_damaged, false, 6},
-    {"damaged units, wide", 265, make_damaged_wide, false, 6},
+    {"small lists, chosen", 22000, make_small_chosen, EVERY_KEY, 0},
+    {"small lists, given", 22000, make_small_given, EVERY_KEY, 0},
+    {"few cells", 6000, make_few_cells, EVERY_KEY, 0},
+    {"near vectors", 6000, make_near, SOME_KEYS, 0},
+    {"mid-size lists", 500, make_middle, SOME_KEYS, 1},
+    {"large lists", 60, make_large, SOME_KEYS, 2},
+    {"many variables", 200, make_many_variables, SOME_KEYS, 1},
+    {"faulty lists", 6000, make_faulty_list, SOME_KEYS, 0},
+    {"faulty variables", 6000, make_faulty_variable, SOME_KEYS, 0},
+    {"dependent variables", 6000, make_dependent, SOME_KEYS, 0},
+    {"too few variables", 5000, make_too_few, SOME_KEYS, 0},
+    {"numbers out of bounds", 4000, make_bad_number, SOME_KEYS, 0},
+    {"short slices", 5000, make_short_slice, SOME_KEYS, 0},
+    {"several faults", 5000, make_several, SOME_KEYS, 0},
+    {"damaged units", 6000, make_damaged, SOME_KEYS, 6},
+    {"damaged units, wide", 265, make_damaged_wide, SOME_KEYS, 6},
+    {"units not built", 3000, make_not_built, NOT_BUILT, 2},
+    {"units not built, any size", 200, make_any_size, NOT_BUILT, 2},
 };
 const size_t kind_count = sizeof kinds / sizeof kinds[0];
 

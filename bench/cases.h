@@ -25,18 +25,25 @@ struct call {
     uint64_t vectors[VECTOR_ROOM];
 };
 
-/* The part of a unit that a lookup or a recovery reads, in a form that can be damaged. */
+/* The words of the record that go by name. */
+enum { AT_N, AT_P, AT_N1, AT_K, AT_L, AT_KEPT, AT_VARIABLES = 8, RECORD_WORDS = 40 };
+
+/* What the builds leave and the other entries read, in a form that can be damaged. */
 struct tables {
     uint64_t *record;
     uint16_t *h, *g;
     uint64_t *aux;
 };
 
+/* What is done with the unit of a call: some keys are looked up, or every key of n bits; or no unit is built, and a sound record stands
+ * over junk in the tables. */
+enum use { SOME_KEYS, EVERY_KEY, NOT_BUILT };
+
 struct kind {
     const char *name;
     size_t weight;
     void (*make)(struct random *r, struct call *c);
-    bool every_key;
+    enum use use;
     size_t damage_rounds;
 };
 

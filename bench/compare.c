@@ -56,7 +56,7 @@ static size_t rows_changed(const struct trial *t)
 /* The rows of a build that got as far as placing. A refusal 13 of a chosen build does not tell n1, so the words of H do. */
 static size_t rows_of(const struct trial *t, bool accepted)
 {
-    size_t n1 = accepted ? t->after[0].record[GUARD + 2] : t->call.n1;
+    size_t n1 = accepted ? t->after[0].record[GUARD + AT_N1] : t->call.n1;
     if (accepted || t->call.given)
         return n1 <= SIDE_AT_MOST ? (size_t)1 << n1 : SIZE_MAX;
     size_t rows = 1;
@@ -72,7 +72,7 @@ static bool record_allowed(const struct trial *t, bool accepted)
     if (!accepted)
         return all_zero(&t->after[0], RECORD, 0, IGU_RECORD_WORDS);
     bool spare = all_zero(&t->after[0], RECORD, 8 + IGU_VARIABLES, IGU_RECORD_WORDS);
-    return spare && record[0] == c->n && record[3] == c->k && record[4] == c->L;
+    return spare && record[AT_N] == c->n && record[AT_K] == c->k && record[AT_L] == c->L;
 }
 
 static void check_written(const struct trial *t, enum entry entry, const uint64_t answers[2])
@@ -149,6 +149,12 @@ void recover_both(struct trial *t, struct counts *counts, size_t i)
     if (!right)
         report_difference(t, "both answers are wrong by the list, or such as no unit gives", RECOVER, i, answers);
     counts->refusals[RECOVER][answers[0]]++;
+}
+
+void remember(struct trial *t)
+{
+    for (int side = 0; side < 2; side++)
+        memory_copy(&t->before[side], &t->after[side]);
 }
 
 void check_unwritten(const struct trial *t)

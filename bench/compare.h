@@ -11,7 +11,10 @@ bool build_both(struct trial *t, struct counts *counts);
 void lookup_both(struct trial *t, struct counts *counts, uint64_t x);
 void recover_both(struct trial *t, struct counts *counts, size_t i);
 
-/* Since the last build or damage, lookup wrote nothing and recovery its vector only. */
+/* The memory as it is becomes that before the calls to come. */
+void remember(struct trial *t);
+
+/* Since then lookup wrote nothing and recovery its vector only. */
 void check_unwritten(const struct trial *t);
 
 #endif

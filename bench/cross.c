@@ -3,7 +3,9 @@
  *   cross --one NUMBER [SEED]    one of them again
  * A difference ends the program with status 1 and the case in full. */
 #include "compare.h"
+#include "draw.h"
 #include "expect.h"
+#include "files.h"
 
 #include <inttypes.h>
 #include <stdio.h>
@@ -49,44 +51,33 @@ static void recover_list(struct trial *t, struct random *r)
     recover_out_of_bounds(t, r);
 }
 
-static void remember(struct trial *t)
-{
-    for (int side = 0; side < 2; side++)
-        memory_copy(&t->before[side], &t->after[side]);
-}
-
 static void use_unit(struct trial *t, struct random *r)
 {
-    t->told = t->call.length;
-    t->damaged = false;
     remember(t);
-    if (t->kind->every_key)
+    if (t->kind->use == EVERY_KEY && !t->damaged)
         lookup_every(t);
     lookup_some(t, r);
     recover_list(t, r);
     check_unwritten(t);
+    write_both(t, &counts, r);
 }
 
-static void damage_both(struct trial *t, struct random *r)
+static void copy_unit(struct memory *to, const struct memory *from)
 {
-    for (size_t times = random_between(r, 1, 3); times > 0; times--)
-        damage(r, &t->call, tables_of(&t->after[0]), &t->told);
-    for (int part = 0; part < PARTS; part++)
-        if (part == RECORD || part == H || part == G || part == AUX)
-            part_copy(&t->after[1], &t->after[0], part);
+    static const enum part unit[] = {RECORD, H, G, AUX};
+    for (size_t i = 0; i < sizeof unit / sizeof unit[0]; i++)
+        part_copy(to, from, unit[i]);
 }
 
 static void use_damaged_unit(struct trial *t, struct random *r, const struct memory *built)
 {
-    for (int part = 0; part < PARTS; part++)
-        part_copy(&t->after[0], built, part);
+    copy_unit(&t->after[0], built);
     t->told = t->call.length;
     t->damaged = true;
-    damage_both(t, r);
-    remember(t);
-    lookup_some(t, r);
-    recover_list(t, r);
-    check_unwritten(t);
+    for (size_t times = random_between(r, 1, 3); times > 0; times--)
+        damage(r, &t->call, tables_of(&t->after[0]), &t->told);
+    copy_unit(&t->after[1], &t->after[0]);
+    use_unit(t, r);
 }
 
 static void use_damaged_units(struct trial *t, struct random *r)
@@ -118,6 +109,18 @@ static void make_case(struct trial *t, struct random *r)
         memory_copy(&t->after[side], &t->before[side]);
 }
 
+/* True when there is a unit to use: of an accepted build, or a sound one that no build made. */
+static bool have_unit(struct trial *t, struct random *r)
+{
+    t->told = t->call.length;
+    t->damaged = t->kind->use == NOT_BUILT;
+    if (!t->damaged)
+        return build_both(t, &counts);
+    draw_record(r, &t->call, tables_of(&t->after[0]).record);
+    copy_unit(&t->after[1], &t->after[0]);
+    return true;
+}
+
 static void run_case(uint64_t seed, uint64_t number)
 {
     static struct trial t;
@@ -126,7 +129,7 @@ static void run_case(uint64_t seed, uint64_t number)
     t.number = number;
     make_case(&t, &r);
     counts.kinds[t.kind - kinds]++;
-    if (build_both(&t, &counts)) {
+    if (have_unit(&t, &r)) {
         use_unit(&t, &r);
         if (t.kind->damage_rounds > 0)
             use_damaged_units(&t, &r);

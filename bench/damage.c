@@ -2,9 +2,6 @@
 #include "draw.h"
 #include "expect.h"
 
-/* The words of the record that are changed by name. */
-enum { N = 0, P = 1, KEPT = 5, FIRST_VARIABLE = 8, WORDS = 40 };
-
 static uint64_t one_bit(struct random *r)
 {
     return (uint64_t)1 << random_below(r, 64);
@@ -12,7 +9,7 @@ static uint64_t one_bit(struct random *r)
 
 static void damage_record_word(struct random *r, uint64_t *record)
 {
-    uint64_t *word = &record[one_in(r, 2) ? random_below(r, FIRST_VARIABLE) : random_below(r, WORDS)];
+    uint64_t *word = &record[one_in(r, 2) ? random_below(r, AT_VARIABLES) : random_below(r, RECORD_WORDS)];
     switch (random_below(r, 5)) {
     case 0: *word += 1; break;
     case 1: *word -= 1; break;
@@ -25,7 +22,7 @@ static void damage_record_word(struct random *r, uint64_t *record)
 /* Any of the 24 places: a variable within n, perhaps dependent or with another part mark; or a word that no variable has. */
 static void damage_variable(struct random *r, const struct call *c, uint64_t *record)
 {
-    uint64_t *word = &record[FIRST_VARIABLE + random_below(r, VARIABLES)];
+    uint64_t *word = &record[AT_VARIABLES + random_below(r, VARIABLES)];
     switch (random_below(r, 4)) {
     case 0: *word ^= 65536; break;
     case 1: *word = random_below(r, (size_t)1 << 18); break;
@@ -41,33 +38,33 @@ static uint64_t low_bit(uint64_t mask)
 /* As many kept inputs as before, but others, within n or not. */
 static void exchange_kept(struct random *r, const struct call *c, uint64_t *record)
 {
-    uint64_t kept = record[KEPT], others = ~kept & (one_in(r, 4) ? UINT64_MAX : inputs(c->n));
+    uint64_t kept = record[AT_KEPT], others = ~kept & (one_in(r, 4) ? UINT64_MAX : inputs(c->n));
     uint64_t out = low_bit(kept & random_word(r)), from = random_below(r, 64), in = low_bit(others & random_word(r) << from);
     if (out != 0 && in != 0)
-        record[KEPT] = (kept ^ out) | in;
+        record[AT_KEPT] = (kept ^ out) | in;
 }
 
 /* One more input, kept: the unit stays well formed, and sound. */
 static void widen(const struct call *c, uint64_t *record)
 {
-    if (c->n < 64 && record[N] == c->n) {
-        record[N]++;
-        record[KEPT] |= (uint64_t)1 << c->n;
+    if (c->n < 64 && record[AT_N] == c->n) {
+        record[AT_N]++;
+        record[AT_KEPT] |= (uint64_t)1 << c->n;
     }
 }
 
 /* One variable more and one kept input fewer, or the other way round: well formed, and now and then sound. */
 static void trade(struct random *r, const struct call *c, uint64_t *record)
 {
-    uint64_t kept = record[KEPT];
+    uint64_t kept = record[AT_KEPT];
     if (one_in(r, 2)) {
-        if (kept != 0 && record[P] < VARIABLES) {
-            record[FIRST_VARIABLE + record[P]++] = random_variable(r, c->n);
-            record[KEPT] = kept ^ low_bit(kept);
+        if (kept != 0 && record[AT_P] < VARIABLES) {
+            record[AT_VARIABLES + record[AT_P]++] = random_variable(r, c->n);
+            record[AT_KEPT] = kept ^ low_bit(kept);
         }
-    } else if (record[P] > 0 && record[P] <= VARIABLES) {
-        record[P]--;
-        record[KEPT] = kept | low_bit(inputs(c->n) & ~kept);
+    } else if (record[AT_P] > 0 && record[AT_P] <= VARIABLES) {
+        record[AT_P]--;
+        record[AT_KEPT] = kept | low_bit(inputs(c->n) & ~kept);
     }
 }
 

@@ -115,6 +115,15 @@ void either(struct random *r, struct call *c)
         give(r, c);
 }
 
+void draw_record(struct random *r, const struct call *c, uint64_t *record)
+{
+    const uint64_t numbers[] = {c->n, c->p, c->n1, c->k, c->L, kept_inputs(c->variables, c->p, c->n)};
+    for (size_t i = 0; i < RECORD_WORDS; i++)
+        record[i] = i < sizeof numbers / sizeof numbers[0] ? numbers[i] : random_word(r);
+    for (size_t v = 0; v < VARIABLES; v++)
+        record[AT_VARIABLES + v] = v < c->p ? c->variables[v] : random_below(r, (size_t)1 << 17);
+}
+
 static size_t variables_at_most(const struct call *c)
 {
     return least(least(c->n, c->k - 1), VARIABLES);

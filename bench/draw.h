@@ -28,6 +28,9 @@ void choose(struct random *r, struct call *c);
 void give(struct random *r, struct call *c);
 void either(struct random *r, struct call *c);
 
+/* A sound record of the call's numbers and variables; where the rules say nothing of it, junk. */
+void draw_record(struct random *r, const struct call *c, uint64_t *record);
+
 /* Slices at least as long as the call needs; and first as many cells as let most lists fit. */
 void give_lengths(struct random *r, struct call *c);
 void give_room(struct random *r, struct call *c);

@@ -1,5 +1,7 @@
 #include "expect.h"
 
+#include <string.h>
+
 static uint64_t refused(unsigned number, size_t place)
 {
     return number + 256 * (uint64_t)place;
@@ -161,4 +163,69 @@ uint64_t expected_recovery(const struct call *c, size_t i, uint64_t *vector)
     bool numbered = i >= 1 && i <= c->k;
     *vector = numbered ? c->vectors[i - 1] : 0;
     return numbered ? 0 : 15;
+}
+
+uint64_t kept_inputs(const uint64_t *variables, size_t p, size_t n)
+{
+    uint64_t basis[64] = {0}, kept = 0;
+    for (size_t v = 0; v < p; v++)
+        span_add(basis, variable_mask(variables[v]));
+    for (size_t i = 0; i < n; i++)
+        if (span_add(basis, (uint64_t)1 << i))
+            kept |= (uint64_t)1 << i;
+    return kept;
+}
+
+/* The call of a given build that the record's numbers and variables would be, with no list. */
+static struct call call_of(const uint64_t *record, const struct lengths *length)
+{
+    struct call c = {.given = true, .n = record[AT_N], .p = record[AT_P], .n1 = record[AT_N1], .length = *length};
+    c.k = record[AT_K];
+    c.L = record[AT_L];
+    for (size_t v = 0; v < VARIABLES; v++)
+        c.variables[v] = record[AT_VARIABLES + v];
+    return c;
+}
+
+static bool words_in_range(const uint64_t *variables)
+{
+    for (size_t v = 0; v < VARIABLES; v++)
+        if (variables[v] >= (uint64_t)1 << 17)
+            return false;
+    return true;
+}
+
+static bool sound(const uint64_t *record, const struct lengths *length)
+{
+    struct call c = call_of(record, length);
+    if (number_refusal(&c) != 0 || c.p > c.n || c.length.h < (size_t)1 << c.n1 || !words_in_range(c.variables))
+        return false;
+    return first_faulty(&c) == 0 && first_dependent(&c) == 0 && record[AT_KEPT] == kept_inputs(c.variables, c.p, c.n);
+}
+
+static size_t blocks_for(size_t words, size_t in_a_block)
+{
+    return (words + in_a_block - 1) / in_a_block;
+}
+
+uint64_t expected_write(const uint64_t *record, const struct lengths *length, size_t file_len)
+{
+    if (!sound(record, length))
+        return refused(14, 0);
+    size_t rows = blocks_for((size_t)1 << record[AT_N1], 252), cells = blocks_for(record[AT_L], 252);
+    size_t bytes = BLOCK * (1 + rows + cells + blocks_for(record[AT_K] + 1, 63));
+    return file_len < bytes ? refused(20, 0) : 256 * (uint64_t)bytes;
+}
+
+void block_check(const uint8_t *block, uint8_t check[BLOCK - CHECKED])
+{
+    uint64_t sum = 0, weighted = 0;
+    for (size_t i = 0; i < CHECKED; i++) {
+        sum += block[i];
+        weighted += (CHECKED - i) * block[i];
+    }
+    sum %= 65521;
+    weighted %= 65521;
+    const uint8_t bytes[] = {sum % 256, sum / 256, weighted % 256, weighted / 256};
+    memcpy(check, bytes, sizeof bytes);
 }

@@ -12,7 +12,7 @@ struct span {
 
 static const struct span spans[PARTS] = {
     [VECTORS] = SPAN("vectors", vectors), [GIVEN] = SPAN("variables", given), [AUX] = SPAN("aux", aux), [RECORD] = SPAN("record", record),
-    [VECTOR] = SPAN("vector", vector),    [H] = SPAN("h", h),                 [G] = SPAN("g", g),
+    [VECTOR] = SPAN("vector", vector),    [H] = SPAN("h", h),                 [G] = SPAN("g", g),       [FILE_BYTES] = SPAN("file", file),
 };
 
 static const unsigned char *start_of(const struct memory *m, enum part part)
@@ -42,7 +42,7 @@ static void set_lengths(struct memory *m, const struct call *c)
 {
     const size_t length[PARTS] = {
         [VECTORS] = c->k,   [GIVEN] = IGU_VARIABLES, [AUX] = c->length.aux, [RECORD] = IGU_RECORD_WORDS,
-        [VECTOR] = 1,       [H] = c->length.h,       [G] = c->length.g,
+        [VECTOR] = 1,       [H] = c->length.h,       [G] = c->length.g,     [FILE_BYTES] = 0,
     };
     memcpy(m->length, length, sizeof length);
 }
@@ -70,6 +70,12 @@ void memory_twin(struct memory *to, const struct memory *from, const struct call
     }
     for (size_t v = c->p; v < IGU_VARIABLES; v++)
         to->given[GUARD + v] = random_word(r);
+}
+
+void memory_lend_file(struct memory *m, struct random *r, size_t length)
+{
+    m->length[FILE_BYTES] = length;
+    junk(r, m->file, length + 2 * GUARD);
 }
 
 void memory_copy(struct memory *to, const struct memory *from)
@@ -116,10 +122,9 @@ uint64_t part_word(const struct memory *m, enum part part, size_t i)
     const unsigned char *at = start_of(m, part) + bytes(part, GUARD + i);
     uint16_t half;
     uint64_t word;
-    if (spans[part].width == sizeof word) {
-        memcpy(&word, at, sizeof word);
-        return word;
+    switch (spans[part].width) {
+    case 1: return *at;
+    case sizeof half: memcpy(&half, at, sizeof half); return half;
+    default: memcpy(&word, at, sizeof word); return word;
     }
-    memcpy(&half, at, sizeof half);
-    return half;
 }

@@ -9,8 +9,9 @@
 #define H_ROOM (4096 + SLACK)
 #define G_ROOM (CELLS_AT_MOST + SLACK)
 #define AUX_ROOM (VECTOR_ROOM + SLACK)
+#define FILE_ROOM (70 * 512) /* the longest file has 68 blocks */
 
-enum part { VECTORS, GIVEN, AUX, RECORD, VECTOR, H, G, PARTS };
+enum part { VECTORS, GIVEN, AUX, RECORD, VECTOR, H, G, FILE_BYTES, PARTS };
 
 struct memory {
     size_t length[PARTS];
@@ -21,15 +22,19 @@ struct memory {
     uint64_t vector[GUARD + 1 + GUARD];
     uint16_t h[GUARD + H_ROOM + GUARD];
     uint16_t g[GUARD + G_ROOM + GUARD];
+    uint8_t file[GUARD + FILE_ROOM + GUARD];
 };
 
 struct tables tables_of(struct memory *m);
 
-/* Junk everywhere, then the call's vectors and variables. */
+/* Junk everywhere, then the call's vectors and variables; no file. */
 void memory_fill(struct memory *m, const struct call *c, struct random *r);
 
 /* The same slices, with other guard words and, past the first p variables, other junk: a call that reads those gives itself away. */
 void memory_twin(struct memory *to, const struct memory *from, const struct call *c, struct random *r);
+
+/* A file of this length, junk with other guard bytes than before. */
+void memory_lend_file(struct memory *m, struct random *r, size_t length);
 
 void memory_copy(struct memory *to, const struct memory *from);
 

@@ -5,7 +5,7 @@
 #include <stdlib.h>
 
 static const char *const side_names[2] = {"igu", "twin"};
-static const char *const entry_names[ENTRIES] = {"build", "build_given", "lookup", "recover"};
+static const char *const entry_names[ENTRIES] = {"build", "build_given", "lookup", "recover", "write"};
 
 /* The refusals that docs/SCOPE.md lets each entry give, as bits. */
 static const unsigned possible[ENTRIES] = {
@@ -13,6 +13,7 @@ static const unsigned possible[ENTRIES] = {
     [BUILD_GIVEN] = 0x37FF, /* 0 to 10, 12, 13 */
     [LOOKUP] = 0x4041,      /* 0, 6, 14 */
     [RECOVER] = 0xC001,     /* 0, 14, 15 */
+    [WRITE] = 0x104001,     /* 0, 14, 20 */
 };
 
 bool refusal_possible(enum entry entry, uint64_t refusal)
@@ -38,7 +39,7 @@ static void print_call(const struct call *c)
     printf("L %zu, k %zu, h_len %zu, g_len %zu, aux_len %zu\n", c->L, c->k, c->length.h, c->length.g, c->length.aux);
 }
 
-/* The unit as it was handed to lookup or recovery, damaged or not. */
+/* The unit as it was handed to any other entry than the builds, damaged or not. */
 static void print_unit(const struct trial *t)
 {
     const struct memory *m = &t->before[0];
@@ -75,14 +76,15 @@ _Noreturn void report_difference(const struct trial *t, const char *what, enum e
     if (t->call.given)
         print_part(&t->before[0], GIVEN, IGU_VARIABLES);
     print_part(&t->before[0], VECTORS, t->call.k);
-    if (entry == LOOKUP || entry == RECOVER)
+    bool builds = entry == BUILD || entry == BUILD_GIVEN;
+    if (!builds)
         print_unit(t);
     printf("entry %s", entry_names[entry]);
-    if (entry == LOOKUP || entry == RECOVER)
+    if (!builds)
         printf(", argument %" PRIu64, argument);
     putchar('\n');
     for (int side = 0; side < 2; side++)
-        printf("%s answers %" PRIu64 ": refusal %" PRIu64 ", place or index %" PRIu64 "\n", side_names[side], answers[side],
+        printf("%s answers %" PRIu64 ": refusal %" PRIu64 ", place, index or bytes %" PRIu64 "\n", side_names[side], answers[side],
                answers[side] % 256, answers[side] / 256);
     print_all_differing(t);
     exit(1);
@@ -94,6 +96,14 @@ static uint64_t calls(const struct counts *counts, enum entry entry)
     for (int number = 0; number < REFUSALS; number++)
         sum += counts->refusals[entry][number];
     return sum;
+}
+
+static bool any_entry(int number)
+{
+    for (int entry = 0; entry < ENTRIES; entry++)
+        if (refusal_possible(entry, number))
+            return true;
+    return false;
 }
 
 static void print_row(const struct counts *counts, int number)
@@ -113,9 +123,10 @@ void report_counts(const struct counts *counts)
     puts("| Kind of case | Cases |\n|---|---|");
     for (size_t i = 0; i < kind_count; i++)
         printf("| %s | %" PRIu64 " |\n", kinds[i].name, counts->kinds[i]);
-    puts("\n| Refusal | build | build_given | lookup | recover |\n|---|---|---|---|---|");
+    puts("\n| Refusal | build | build_given | lookup | recover | write |\n|---|---|---|---|---|---|");
     for (int number = 0; number < REFUSALS; number++)
-        print_row(counts, number);
+        if (any_entry(number))
+            print_row(counts, number);
     printf("| calls |");
     for (int entry = 0; entry < ENTRIES; entry++)
         printf(" %" PRIu64 " |", calls(counts, entry));

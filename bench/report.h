@@ -4,9 +4,9 @@
 
 #include "memory.h"
 
-enum entry { BUILD, BUILD_GIVEN, LOOKUP, RECOVER, ENTRIES };
+enum entry { BUILD, BUILD_GIVEN, LOOKUP, RECOVER, WRITE, ENTRIES };
 
-#define REFUSALS 16
+#define REFUSALS 21
 #define KINDS_AT_MOST 32
 
 /* One case: the call, and for each of the two the memory before and after it. */
@@ -14,7 +14,7 @@ struct trial {
     uint64_t seed, number;
     const struct kind *kind;
     struct call call;
-    bool damaged;        /* the unit handed to lookup and recovery is not the one that was built */
+    bool damaged;        /* the unit handed over is not the one that was built, or none was */
     struct lengths told; /* the lengths of its slices, as handed over */
     struct memory before[2], after[2];
 };
@@ -24,7 +24,8 @@ struct counts {
     uint64_t refusals[ENTRIES][REFUSALS];
 };
 
-/* Prints the case and both answers, and ends the program with status 1; argument is lookup's key or recovery's index. */
+/* Prints the case and both answers, and ends the program with status 1; argument is lookup's key, recovery's index
+ * or the length of the file. */
 _Noreturn void report_difference(const struct trial *t, const char *what, enum entry entry, uint64_t argument, const uint64_t answers[2]);
 
 void report_counts(const struct counts *counts);

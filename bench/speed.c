@@ -1,15 +1,13 @@
 /* Times the proved unit beside its twin, and lookup beside three other ways to find a key, all in one process, in turn.
  * Prints Markdown tables: medians of the rounds in nanoseconds, and their ratios, which are what counts under an emulator. */
-#define _POSIX_C_SOURCE 200809L
-
 #include "igu.h"
 #include "random.h"
 #include "rivals.h"
+#include "speed_file.h"
+#include "timing.h"
 #include "twin.h"
 
 #include <stdio.h>
-#include <stdlib.h>
-#include <time.h>
 
 #define SEED 1
 #define SEEDS_TRIED 50
@@ -49,20 +47,6 @@ enum way { IGU, TWIN, SCAN, BINARY, HASH, WAYS };
 
 static struct setup setup;
 static double build_times[2][SIZES], lookup_times[WAYS][SIZES];
-static int ok, missed;
-
-static _Noreturn void stop(const char *why)
-{
-    fprintf(stderr, "speed: %s\n", why);
-    exit(1);
-}
-
-static double now(void)
-{
-    struct timespec t;
-    clock_gettime(CLOCK_MONOTONIC, &t);
-    return (double)t.tv_sec * 1e9 + (double)t.tv_nsec;
-}
 
 static uint64_t random_vector(struct random *r, size_t n)
 {
@@ -171,28 +155,6 @@ static uint64_t sum_hash(void)
     SUM_OVER_KEYS(256 * hash_lookup(&setup.hash, x));
 }
 
-static int rising(const void *a, const void *b)
-{
-    double left = *(const double *)a, right = *(const double *)b;
-    return (left > right) - (left < right);
-}
-
-static double median(double *times, size_t count)
-{
-    qsort(times, count, sizeof times[0], rising);
-    return times[count / 2];
-}
-
-static double timed(uint64_t (*call)(void), uint64_t wanted)
-{
-    double start = now();
-    uint64_t answer = call();
-    double end = now();
-    if (answer != wanted)
-        stop("an answer differs: a refused build, or a wrong lookup");
-    return end - start;
-}
-
 static void time_builds(size_t at)
 {
     double times[2][BUILD_ROUNDS], start = now();
@@ -215,12 +177,6 @@ static void time_lookups(size_t at)
             times[way][round] = timed(ways[way], wanted);
     for (int way = 0; way < WAYS; way++)
         lookup_times[way][at] = median(times[way], LOOKUP_ROUNDS) / (double)(2 * setup.size.k);
-}
-
-static const char *verdict(double ratio, double wanted)
-{
-    *(ratio <= wanted ? &ok : &missed) += 1;
-    return ratio <= wanted ? "ok" : "missed";
 }
 
 static void print_size(const struct size *s)
@@ -284,6 +240,7 @@ int main(void)
     print_builds();
     print_lookup_times();
     print_lookup_ratios();
-    printf("\nwanted figures: %d ok, %d missed\n", ok, missed);
+    time_files();
+    print_verdicts();
     return 0;
 }

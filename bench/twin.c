@@ -2,12 +2,11 @@
  *
  * A variable's word is i + 256 * j, as in the record. Read as two inputs i and j, with an input 0 that is always 0, a single input needs
  * no case of its own. Nothing is allocated; every array has the size of the worst case. */
-#include "twin.h"
+#include "twin_unit.h"
 
 #include <string.h>
 
 enum { MAX_INPUTS = 64, MAX_SIDE = 12, MAX_ROWS = 1 << MAX_SIDE, MAX_VECTORS = 1023, MAX_CELLS = 8192 };
-enum { AT_N, AT_P, AT_N1, AT_K, AT_L, AT_KEPT, AT_TRIES, AT_EXCESS, AT_VARIABLES };
 
 typedef struct {
     uint64_t n, p, n1, L, k, kept, variable[TWIN_VARIABLES];
@@ -502,6 +501,13 @@ static uint64_t solve(const forest *f, uint64_t n, uint64_t kept) {
         vector |= (uint64_t)value[i] << (i - 1);
     }
     return vector;
+}
+
+int twin_sound(const uint64_t *record, size_t h_len, size_t g_len, size_t aux_len) {
+    uint64_t values;
+    forest f = {{0}, {0}};
+    if (!read_unit(record, h_len, g_len, aux_len, 0, &values)) return 0;
+    return join_inputs(&f, record + AT_VARIABLES, record[AT_P], 0) == 0 && kept_inputs(&f, record[AT_N]) == record[AT_KEPT];
 }
 
 uint64_t twin_recover(const uint64_t record[TWIN_RECORD_WORDS], const uint16_t *h, size_t h_len, const uint16_t *g, size_t g_len,

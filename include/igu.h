@@ -1,18 +1,18 @@
 /* The index generation unit for C: a list of k different vectors of n bits, numbered 1 to k, turned into three small tables
  * H, G and AUX, so that a key gives its number, or 0, with one addition.
  *
- * The functions are proved, in crate bridge; docs/PROMISES.md names the definition that each one equals. The refusals 1 to 15 are
- * those of README.md. None has a condition on numbers: every call ends, with an answer or a refusal, if the caller keeps to this:
+ * The functions are proved, in crate bridge; docs/PROMISES.md names the definition that each one equals. The refusals are those of
+ * README.md. None has a condition on numbers: every call ends, with an answer or a refusal, if the caller keeps to this:
  *
  * Memory. Every pointer is aligned and not null, also with length 0, and is good for as many elements as its length says (or 40, 24 or
  * 1, as the declaration says). Memory that a call writes overlaps no other memory of that call.
  *
- * Stack. A call needs at most this much of it: igu_build 80 KB, igu_build_given 20 KB, igu_recover and igu_lookup 2 KB. With less it
- * can end the process, as igu_build does on a stack of 64 KB. docs/FIGURES.md has what was measured.
+ * Stack. A call needs at most this much of it: igu_build 80 KB, igu_build_given 20 KB, igu_write 3 KB, igu_recover and igu_lookup
+ * 2 KB. With less it can end the process, as igu_build does on a stack of 64 KB. docs/FIGURES.md has what was measured.
  *
  * Threads. The functions keep nothing between calls. Calls may run in several threads at once, as long as no call writes memory that
- * another one is using: each build has a record and tables of its own; lookups and recoveries may share those of a build that has
- * ended, each recovery with its own place for the vector. */
+ * another one is using: each build has a record and tables of its own; the other calls may share those of a build that has ended, each
+ * recovery with its own place for the vector, each write with a file of its own. */
 #ifndef IGU_H
 #define IGU_H
 
@@ -23,7 +23,7 @@
 extern "C" {
 #endif
 
-/* The record of a unit, which the builds write and the other two read:
+/* The record of a unit, which the builds write and the others read:
  *   [0] n          inputs, 1 to 64
  *   [1] p          variables
  *   [2] n1         row variables, the first n1 of the p
@@ -64,6 +64,19 @@ uint64_t igu_lookup(const uint64_t record[IGU_RECORD_WORDS], const uint16_t *h, 
  * Writes nothing else. */
 uint64_t igu_recover(const uint64_t record[IGU_RECORD_WORDS], const uint16_t *h, size_t h_len, const uint16_t *g, size_t g_len,
                      const uint64_t *aux, size_t aux_len, size_t i, uint64_t vector[1]);
+
+/* A file is made of blocks: the head, with the numbers and variables of the record, then H[0..2^n1), G[0..L) and AUX[0..k], each from a
+ * block of its own, 252 words of H or G or 63 of AUX in a block. Every block ends with two checks on its other bytes. No file has more
+ * than 68 blocks. */
+#define IGU_BLOCK_BYTES 512
+#define IGU_FILE_BYTES (68 * IGU_BLOCK_BYTES)
+
+/* Writes a sound unit (docs/SCOPE.md, 13.2) as a file and returns refusal + 256 * bytes, the file having so many bytes; beside a refusal
+ * they are 0 and nothing is written. Refusal 14: the unit is not sound, or any of the 24 variable words is above 2^17 - 1; refusal 20:
+ * file_len is less than the file needs (IGU_FILE_BYTES always suffices). The excess, the part marks, what stands in unused variable words
+ * and tries beyond 32 bits do not come into the file. Bytes of the target past the file keep their value. */
+uint64_t igu_write(const uint64_t record[IGU_RECORD_WORDS], const uint16_t *h, size_t h_len, const uint16_t *g, size_t g_len,
+                   const uint64_t *aux, size_t aux_len, uint8_t *file, size_t file_len);
 
 #ifdef __cplusplus
 }

@@ -14,7 +14,7 @@ use Rattle.record.specs.Tables.{Tables, lent}
 use Rattle.build.specs.Build.{Outcome, after, buildChosen}
 use Rattle.record.specs.Formed.{wellFormed}
 use Rattle.build.proofs.Holding.Holds.{chosen-holds}
-use Rattle.record.proofs.Sound.{sound-says}
+use Rattle.record.proofs.Soundness.{sound-says}
 use Rattle.input.specs.declared.Input.{Input}
 use Rattle.input.specs.Fields.{fields}
 use Rattle.lists.specs.Members.{every}

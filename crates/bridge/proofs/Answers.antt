@@ -15,8 +15,12 @@ use Rattle.lookup.specs.Lookup.{notFound, lookupOf}
 use Rattle.recover.specs.Recover.{notRecovered, recoverOf}
 use Rattle.build.proofs.Places.{placeLimit}
 use Rattle.lookup.proofs.Indices.{found-index}
+use Rattle.file.specs.declared.Written.{Written}
+use Rattle.file.specs.Write as file
+use Rattle.file.specs.Write.{writeOf}
+use Rattle.file.proofs.Outcomes.{written-few}
 use Rattle.bridge.specs.Flat.{variableAt, flatOf, variableWords, unitAt, allInRange}
-use Rattle.bridge.specs.Calls.{answer, left, leftBy, buildCall, givenCall, foundIn, recoveredIn, lookupCall}
+use Rattle.bridge.specs.Calls.{answer, left, leftBy, buildCall, givenCall, foundIn, recoveredIn, lookupCall, Filed, filed, filedBy, writeCall}
 
 -- ---- the builds
 
@@ -66,3 +70,21 @@ module _ (words : List ℕ) (t : Tables) (x : ℕ) where
 
 pub index-fits : (u : Record) (t : Tables) (x : ℕ) (f : Found) → f ≡ lookupOf u t x → f .index < 65536
 index-fits u t x f e = omega (arith, found-index u t x, ap (λ (f : Found). f .index) e)
+
+-- ---- writing a file
+
+module _ (words : List ℕ) (t : Tables) (target : List ℕ) where
+  abbrev filedIn : Bool → Filed
+  filedIn b = cond b (filedBy (writeOf (unitAt words) t target)) (filed 14 target)
+
+  pub filed-unread : allInRange (variableWords words) ≡ false → filed 14 target ≡ writeCall words t target
+  unfolding writeCall
+  filed-unread e = sym (ap filedIn e)
+
+  pub filed-read : (u : Record) (w : Written) (l : List ℕ) (a : ℕ) → allInRange (variableWords words) ≡ true → u ≡ unitAt words → file.after w l ≡ writeOf u t target
+      → a ≡ answer (w .refusal) (w .length) → filed a l ≡ writeCall words t target
+  unfolding writeCall
+  filed-read u w l a e v o i = ap (λ (b : ℕ). filed b l) i ∙ ap filedBy (o ∙ ap (λ (u : Record). writeOf u t target) v) ∙ sym (ap filedIn e)
+
+pub length-fits : (u : Record) (t : Tables) (target : List ℕ) (w : Written) (l : List ℕ) → file.after w l ≡ writeOf u t target → w .length < 65536
+length-fits u t target w l e = omega (arith, written-few u t target, ap (λ (o : file.Outcome). o .written .length) e)

@@ -8,6 +8,8 @@ use Rattle.record.specs.Tables.{Tables}
 use Rattle.build.specs.Build.{Outcome, buildChosen, buildGiven}
 use Rattle.lookup.specs.Lookup.{notFound, lookupOf}
 use Rattle.recover.specs.Recover.{notRecovered, recoverOf}
+use Rattle.file.specs.Write as file
+use Rattle.file.specs.Write.{writeOf}
 use Rattle.bridge.specs.Flat.{variableAt, flatOf, unitAt, variableWords, allInRange}
 
 -- the answer: the refusal, and above its 8 bits the place or the index
@@ -47,3 +49,18 @@ recoveredIn words t i = cond (allInRange (variableWords words)) (recoverOf (unit
 unfoldable pub lookupCall : List ℕ → Tables → ℕ → ℕ
 unfolding foundIn
 lookupCall words t x = let f = foundIn words t x in answer (f .refusal) (f .index)
+
+-- what writing a file leaves: its answer, with the bytes written, and every byte of the target
+pub record Filed : Type 0 where
+  pub answer : ℕ
+  pub target : List ℕ
+
+abbrev pub filed : ℕ → List ℕ → Filed
+filed r target = record { answer = r; target = target }
+
+abbrev pub filedBy : file.Outcome → Filed
+filedBy o = filed (answer (o .written .refusal) (o .written .length)) (o .target)
+
+unfoldable pub writeCall : List ℕ → Tables → List ℕ → Filed
+unfolding allInRange unitAt writeOf
+writeCall words t target = cond (allInRange (variableWords words)) (filedBy (writeOf (unitAt words) t target)) (filed 14 target)

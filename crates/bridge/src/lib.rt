@@ -1,8 +1,8 @@
-// The unit for C and Rust: four functions over slices and a flat record of 40 words.
+// The unit for C and Rust: five functions over slices and a flat record of 40 words.
 ghost use mathlib.Core.Path.{_≡_};
 ghost use mathlib.Core.List.{_∷_, []};
 ghost use Rattle.record.specs.Tables.{lent};
-ghost use Rattle.bridge.specs.Calls.{left, buildCall, givenCall, lookupCall, recoveredIn};
+ghost use Rattle.bridge.specs.Calls.{left, buildCall, givenCall, lookupCall, recoveredIn, filed, writeCall};
 use flat::WORDS;
 use vectors::MAX_VARIABLES;
 
@@ -90,4 +90,24 @@ pub extern "C" fn igu_recover(
     let recovered = unit::recover(flat::unit(words, variables), h, g, aux, i);
     *vector = [recovered.vector];
     recovered.refusal as u64
+}
+
+// The refusal and 256 times the bytes of the file that is written.
+#[no_mangle]
+pub extern "C" fn igu_write(
+    words: &[u64; WORDS],
+    h: &[u16],
+    g: &[u16],
+    aux: &[u64],
+    target: &mut [u8],
+) -> u64
+    ensures { λ r. ⌜ filed r (now (target .exit)) ≡ writeCall (now (words .entry)) (lent (now (h .entry)) (now (g .entry)) (now (aux .entry))) (now (target .entry)) ⌝ }
+{
+    if !flat::readable(words) {
+        return 14;
+    }
+    let all = &words[..];
+    let variables = flat::variables(&all[8..32]);
+    let written = file::write(flat::unit(words, variables), h, g, aux, target);
+    flat::answer(written.refusal, written.length)
 }

@@ -22,7 +22,7 @@ use Rattle.lookup.specs.Lookup.{found, compared, answer, lookupOf}
 use Rattle.record.specs.Leads.{wordIn, cellIn}
 use Rattle.record.specs.Holds.{Leads, Holds, indexOf}
 use Rattle.lookup.proofs.Lookups.{answer-out, answer-in, compared-same, compared-other, lookup-answer}
-use Rattle.record.proofs.Sound.{Sound, sound-says}
+use Rattle.record.proofs.Soundness.{Sound, sound-says}
 
 module _ (u : Record) (t : Tables) (vs : List ℕ) (H : Holds u t vs) where
   S : Sound u t

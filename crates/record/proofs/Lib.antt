@@ -1,4 +1,4 @@
 pub mod Formed
-pub mod Sound
+pub mod Soundness
 pub mod Marks
 pub mod Excesses

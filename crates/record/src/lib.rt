@@ -6,7 +6,7 @@ ghost use Rattle.vectors.specs.Bounds.{maxInputs};
 ghost use Rattle.vectors.specs.Variable.{kindsOf};
 ghost use Rattle.record.specs.Tables.{lent, indexIn};
 ghost use Rattle.record.specs.Record.{blankRecord, variablesOf, log2Up, excessOf};
-ghost use Rattle.record.specs.Formed.{inBounds, rightKept, longEnough, framedBy, wellFormed};
+ghost use Rattle.record.specs.Formed.{inBounds, rightKept, longEnough, framedBy, wellFormed, sound as Formed·sound};
 ghost use Rattle.record.specs.Inner.Formed.{InBounds};
 ghost use Rattle.record.specs.Inner.Parts.{partAt};
 use vectors::MAX_CELLS;
@@ -119,6 +119,20 @@ pub fn well_formed(unit: Record, h: &[u16], g: &[u16], aux: &[u64]) -> bool
     }
     let variables = unit.variables;
     vectors::first_faulty(unit.n as u8, variables, unit.p) == 0
+}
+
+// Whether a unit is well formed, its variables are independent, and its kept inputs those of the rule.
+pub fn sound(unit: Record, h: &[u16], g: &[u16], aux: &[u64]) -> bool
+    ensures { λ r. ⌜ r ≡ Formed·sound unit (lent (now (h .entry)) (now (g .entry)) (now (aux .entry))) ⌝ }
+{
+    if !well_formed(unit, h, g, aux) {
+        return false;
+    }
+    let variables = unit.variables;
+    if span::first_dependent(unit.n, variables, unit.p) != 0 {
+        return false;
+    }
+    unit.kept == span::kept_inputs(unit.n, variables, unit.p)
 }
 
 // The part mark of place i.

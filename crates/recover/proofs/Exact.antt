@@ -20,7 +20,7 @@ use Rattle.record.specs.Tables.{Tables}
 use Rattle.record.specs.Leads.{wordIn, cellIn}
 use Rattle.recover.specs.Recover.{recovered, firstCell, rowIn, fixes, vectorAt, fromCell, recoverOf}
 use Rattle.record.specs.Holds.{Holds}
-use Rattle.record.proofs.Sound.{Sound, sound-says}
+use Rattle.record.proofs.Soundness.{Sound, sound-says}
 
 module _ (u : Record) (t : Tables) (vs : List ℕ) (H : Holds u t vs) where
   S : Sound u t

@@ -10,7 +10,7 @@ pub record Over (old done l : List ℕ) : Type 0 where
   pub room : length done ≤ length old
   pub is : l ≡ done ++ drop (length done) old
 
-drop-replicate : {A : Type 0} (i n : ℕ) (a : A) → drop i (replicate n a) ≡ replicate (n - i) a
+pub drop-replicate : {A : Type 0} (i n : ℕ) (a : A) → drop i (replicate n a) ≡ replicate (n - i) a
 drop-replicate zero n a = let e : n - 0 ≡ n = omega arith in rw e
 drop-replicate (suc i) zero a = let e : zero - suc i ≡ zero = omega arith in rw e
 drop-replicate (suc i) (suc n) a = let e : suc n - suc i ≡ n - i = omega arith in rw e (drop-replicate i n a)

@@ -22,7 +22,7 @@ use Rattle.rows.proofs.Placing.Open.{open-not}
 use Rattle.rows.proofs.Placing.Turns.{Next, at-end}
 
 -- one row more adds its vectors to those placed
-count-more : (r : ℕ) (order : List ℕ) → has r order ≡ false → (cs : List Care) → countIn (r ∷ order) cs ≡ countIn order cs + weightOf cs r
+pub count-more : (r : ℕ) (order : List ℕ) → has r order ≡ false → (cs : List Care) → countIn (r ∷ order) cs ≡ countIn order cs + weightOf cs r
 unfolding countIn weightOf inRow has
 count-more r order h [] = refl
 count-more r order h (c ∷ cs) = go (eqb (c .row) r) refl (count-more r order h cs)

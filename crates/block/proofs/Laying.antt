@@ -1,0 +1,3 @@
+-- Bytes laid into a block.
+pub mod Putting
+pub mod Words

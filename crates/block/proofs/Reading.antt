@@ -1,0 +1,4 @@
+-- Numbers, words and payloads read back from bytes.
+pub mod Numbers
+pub mod Words
+pub mod Blocks

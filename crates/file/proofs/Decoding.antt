@@ -1,0 +1,6 @@
+-- A file taken apart is the unit that was written.
+pub mod Fields
+pub mod Words
+pub mod Units
+pub mod Same
+pub mod Tries

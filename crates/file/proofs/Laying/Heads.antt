@@ -1,0 +1,121 @@
+-- The variables laid into the head, and the head's fields together. Assumes nothing.
+use mathlib.Core.Path.{_≡_, refl, sym, ap, _∙_}
+use mathlib.Core.List.{List, [], _∷_, _++_, append-nil, append-assoc}
+use Prim.Native.Nat.{ℕ, zero, suc, _+_, _-_, _*_, _/_, _%_, _≤_, _<_, min}
+use native.Mathlib.Numerals.{add-one}
+use native.Mathlib.Omega.{arith}
+use lib.ListN.{length, getD, take, set, replicate, length-append, length-map, length-set, length-replicate, replicate-append-replicate, List·getD-map}
+use lib.Seq.{sets, length-sets, length-take-le}
+use Rattle.lists.proofs.Entries.Members.{take-more, map-take}
+use Rattle.lists.proofs.Entries.Parts.{take-least}
+use Rattle.lists.proofs.Writing.Storing.{sets-append}
+use Rattle.vectors.specs.declared.Kind.{Kind}
+use Rattle.vectors.specs.declared.Kind.the-variants.{One, Two}
+use Rattle.vectors.specs.declared.Variable.{Variable}
+use Rattle.vectors.specs.Bounds.{maxVariables}
+use Rattle.vectors.specs.Variable.{kindsOf}
+use Rattle.record.specs.declared.Record.{Record}
+use Rattle.record.specs.Record.{kindsIn}
+use Rattle.block.specs.Bytes.{littleOf}
+use Rattle.block.specs.Block.{payloadAt, checkAt, openingOf, padded, sealed, blockOf}
+use Rattle.block.proofs.Laying.Words.{length-opening, laid}
+use Rattle.file.specs.Layout.{headKind, lettersAt, variablesAt}
+use Rattle.file.specs.File.{opening, variableBytes, variablesBytes, headPayload, headOf}
+
+length-variable : (k : Kind) → length (variableBytes k) ≡ 2
+length-variable (One i) = refl
+length-variable (Two i j) = refl
+
+pub length-variables : (ks : List Kind) → length (variablesBytes ks) ≡ 2 * length ks
+unfolding variablesBytes
+length-variables [] = refl
+length-variables (k ∷ ks) = length-append (variableBytes k) (variablesBytes ks) ∙ omega (arith, length-variable k, length-variables ks)
+
+variables-end : (ks : List Kind) (k : Kind) → variablesBytes (ks ++ (k ∷ [])) ≡ variablesBytes ks ++ variableBytes k
+unfolding variablesBytes
+variables-end [] k = append-nil (variableBytes k)
+variables-end (j ∷ ks) k = ap (λ (l : List ℕ). variableBytes j ++ l) (variables-end ks k) ∙ sym (append-assoc (variableBytes j) (variablesBytes ks) (variableBytes k))
+
+-- ---- the loop over the variables
+
+-- at variable i: l is left of before
+pub record Placing (ks : List Kind) (before l : List ℕ) (i : ℕ) : Type 0 where
+  pub long : length l ≡ length before
+  pub is : l ≡ sets before variablesAt (variablesBytes (take i ks))
+
+pub placing-none : (ks : List Kind) (before : List ℕ) → Placing ks before before 0
+unfolding variablesBytes
+placing-none ks before = record { long = refl; is = refl }
+
+pub placing-more : (vs : List Variable) (before l : List ℕ) (i x y : ℕ) (d : Variable) → i < length vs → x ∷ y ∷ [] ≡ variableBytes (getD vs i d .kind) → Placing (kindsOf vs) before l i
+    → Placing (kindsOf vs) before (set (set l (variablesAt + 2 * i) x) (variablesAt + 2 * i + 1) y) (i + 1)
+placing-more vs before l i x y d h e s =
+    let ks : List Kind = kindsOf vs in
+    let j : i < length ks = omega (arith, length-map vs (λ v. v .kind)) in
+    let q : x ∷ y ∷ [] ≡ variableBytes (getD ks i (d .kind)) = e ∙ ap variableBytes (sym (List·getD-map (λ (v : Variable). v .kind) vs i d)) in
+    let v : List ℕ = variablesBytes (take i ks) in
+    let n : variablesAt + length v ≡ variablesAt + 2 * i = omega (arith, length-variables (take i ks), length-take-le i ks (omega arith)) in
+    let m : variablesBytes (take (i + 1) ks) ≡ v ++ (x ∷ y ∷ []) =
+    ap variablesBytes (take-more ks i (d .kind) j) ∙ variables-end (take i ks) (getD ks i (d .kind)) ∙ ap (λ (l : List ℕ). v ++ l) (sym q) in
+    let t : sets before variablesAt (v ++ (x ∷ y ∷ [])) ≡ sets (sets before variablesAt v) (variablesAt + 2 * i) (x ∷ y ∷ []) =
+    rw n at (sets-append v (x ∷ y ∷ []) before variablesAt) in
+    record {
+      long = length-set (set l (variablesAt + 2 * i) x) (variablesAt + 2 * i + 1) y ∙ length-set l (variablesAt + 2 * i) x ∙ s .long;
+      is = rw add-one (ap (λ (l : List ℕ). sets l (variablesAt + 2 * i) (x ∷ y ∷ [])) (s .is) ∙ sym t ∙ ap (sets before variablesAt) (sym m));
+    }
+
+pub placing-end : (vs : List Variable) (before l : List ℕ) (p i : ℕ) → length vs ≡ maxVariables → i ≡ min p maxVariables → Placing (kindsOf vs) before l i
+    → l ≡ sets before variablesAt (variablesBytes (kindsOf (take p vs)))
+placing-end vs before l p i n e s =
+    let t : take i (kindsOf vs) ≡ kindsOf (take p vs) = ap (λ (j : ℕ). take j (kindsOf vs)) e ∙ take-least p (kindsOf vs) maxVariables (length-map vs (λ v. v .kind) ∙ n) ∙ sym (map-take (λ (v : Variable). v .kind) p vs) in
+    s .is ∙ ap (λ (ks : List Kind). sets before variablesAt (variablesBytes ks)) t
+
+-- ---- the fields together
+
+-- bytes 4 to 18
+abbrev pub fieldsOf : Record → List ℕ
+fieldsOf u =
+    0x49 ∷ 0x47 ∷ 0x55 ∷ 0x31
+    ∷ u .n % 256 ∷ u .p % 256 ∷ u .n1 % 256
+    ∷ u .k % 256 ∷ u .k / 256 % 256
+    ∷ u .cells % 256 ∷ u .cells / 256 % 256
+    ∷ u .tries % 256 ∷ u .tries / 256 % 256 ∷ u .tries / 256 / 256 % 256 ∷ u .tries / 256 / 256 / 256 % 256
+    ∷ []
+
+pub fields-are : (u : Record) → headPayload u ≡ fieldsOf u ++ padded (2 * maxVariables) (variablesBytes (kindsIn u))
+unfolding headPayload littleOf
+fields-are u = refl
+
+-- zeros behind zeros
+padded-twice : (size m : ℕ) (a b : List ℕ) → length a + m ≤ size → length b ≤ m → padded size (a ++ padded m b) ≡ padded size (a ++ b)
+padded-twice size m a b h k =
+    let z : List ℕ = replicate (m - length b) 0 in
+    let n : length z ≡ m - length b = length-replicate (m - length b) 0 in
+    let l : length (a ++ (b ++ z)) ≡ length a + m = length-append a (b ++ z) ∙ omega (arith, length-append b z) in
+    let d : length (a ++ b) ≡ length a + length b = length-append a b in
+    let c : m - length b + (size - length (a ++ (b ++ z))) ≡ size - length (a ++ b) = omega arith in
+    ap (λ (x : List ℕ). x ++ replicate (size - length (a ++ (b ++ z))) 0) (sym (append-assoc a b z))
+    ∙ append-assoc (a ++ b) z (replicate (size - length (a ++ (b ++ z))) 0)
+    ∙ ap (λ (x : List ℕ). a ++ b ++ x) (replicate-append-replicate (m - length b) (size - length (a ++ (b ++ z))) 0)
+    ∙ ap (λ (i : ℕ). a ++ b ++ replicate i 0) c
+
+-- so the variables need no zeros of their own
+whole : (u : Record) (o : List ℕ) → length o ≡ payloadAt → length (kindsIn u) ≤ maxVariables
+    → padded checkAt (o ++ (fieldsOf u ++ variablesBytes (kindsIn u))) ≡ padded checkAt (o ++ headPayload u)
+whole u o e few =
+    let v : List ℕ = variablesBytes (kindsIn u) in
+    let n : length v ≡ 2 * length (kindsIn u) = length-variables (kindsIn u) in
+    ap (padded checkAt) (sym (append-assoc o (fieldsOf u) v))
+    ∙ sym (padded-twice checkAt (2 * maxVariables) (o ++ fieldsOf u) v (omega (arith, length-append o (fieldsOf u))) (omega arith))
+    ∙ ap (padded checkAt) (append-assoc o (fieldsOf u) (padded (2 * maxVariables) v) ∙ ap (λ (x : List ℕ). o ++ x) (sym (fields-are u)))
+
+pub head-is : (u : Record) (base b r : List ℕ) → length (kindsIn u) ≤ maxVariables → base ≡ openingOf (opening headKind 0) ++ replicate checkAt 0
+    → b ≡ sets (sets base lettersAt (fieldsOf u)) variablesAt (variablesBytes (kindsIn u)) → r ≡ sealed (take checkAt b) → r ≡ headOf u
+unfolding headOf blockOf
+head-is u base b r few e eb q =
+    let v : List ℕ = variablesBytes (kindsIn u) in
+    let o : List ℕ = openingOf (opening headKind 0) in
+    let n : length v ≡ 2 * length (kindsIn u) = length-variables (kindsIn u) in
+    let s : b ≡ sets (o ++ replicate checkAt 0) payloadAt (fieldsOf u ++ v) = eb ∙ sym (sets-append (fieldsOf u) v base lettersAt) ∙ ap (λ (l : List ℕ). sets l payloadAt (fieldsOf u ++ v)) e in
+    let t : take checkAt b ≡ padded checkAt (o ++ (fieldsOf u ++ v)) = ap (take checkAt) s ∙ laid o (fieldsOf u ++ v) (length-opening (opening headKind 0)) (omega (arith, length-append (fieldsOf u) v)) in
+    q ∙ ap sealed (t ∙ whole u o (length-opening (opening headKind 0)) few)
