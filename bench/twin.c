@@ -350,7 +350,8 @@ static uint64_t place_rows(const unit *u, const uint64_t *images, uint64_t *reco
         tries += displacement + 1;
     }
     for (uint64_t v = 1; v <= u->k; v++) u->aux[v] = images[v - 1] & low_bits(u->n1 + u->n - u->p);
-    uint64_t numbers[] = {u->n, u->p, u->n1, u->k, u->L, u->kept, tries, u->p - (64 - (uint64_t)__builtin_clzll(u->k))};
+    uint64_t floor = 63 - (uint64_t)__builtin_clzll(2 * u->k - 1); /* the smallest m with 2^m at least k */
+    uint64_t numbers[] = {u->n, u->p, u->n1, u->k, u->L, u->kept, tries, u->p - floor};
     memcpy(record, numbers, sizeof numbers);
     for (uint64_t t = 0; t < u->p; t++) record[AT_VARIABLES + t] = u->variable[t] | (uint64_t)(t >= u->n1) << 16;
     return 0;

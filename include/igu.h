@@ -31,7 +31,7 @@ extern "C" {
  *   [4] L          cells of G, 1 to 8,192
  *   [5] kept       the kept inputs as a mask, bit i - 1 for x_i
  *   [6] tries      displacements tried
- *   [7] excess     p minus the floor, in two's complement
+ *   [7] excess     p minus the smallest m with 2^m >= k, in two's complement; 0 or more as a build leaves it
  *   [8] to [31]    the variables, i + 256 * j + 65536 * part; j is 0 for the single input x_i, part is 0 for row and 1 for column;
  *                  0 where unused
  *   [32] to [39]   written as 0, never read */

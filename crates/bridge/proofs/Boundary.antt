@@ -5,13 +5,11 @@ use mathlib.Core.Path.{_≡_, refl, sym, subst, _∙_}
 use mathlib.Core.Bool.{true}
 use mathlib.Core.List.{List, _++_, map}
 use lib.ListN.{length, getD, take, drop, replicate, length-map, length-append, length-take, length-drop, length-replicate}
-use mir.Syntax.{w64}
-use mir.Val.{SFits}
 use Rattle.vectors.specs.declared.Kind.{Kind}
 use Rattle.vectors.specs.declared.Part.the-variants.{Row, Column}
 use Rattle.vectors.specs.declared.Variable.{Variable}
 use Rattle.vectors.specs.Variable.{kindsOf, blankVariable}
-use Rattle.vectors.specs.Bounds.{maxVectors, maxVariables}
+use Rattle.vectors.specs.Bounds.{maxVariables}
 use Rattle.build.specs.declared.Refusal.{Refusal}
 use Rattle.record.specs.Tables.{Tables}
 use Rattle.build.specs.Build.{Outcome, outcome, chosenRefusal, givenRefusal, buildChosen, buildGiven, rowsShare, chosenKinds}
@@ -19,11 +17,11 @@ use Rattle.lookup.specs.Lookup.{found, lookupOf}
 use Rattle.recover.specs.Recover.{recovered, recoverOf}
 use Rattle.record.specs.Holds.{indexOf}
 use Rattle.unit.specs.Demand2.{Demand2}
-use Rattle.record.specs.Record.{variablesOf, log2Up, excessOf, recordOf}
+use Rattle.record.specs.Record.{variablesOf, recordOf}
 use Rattle.build.proofs.Holding.Ends.{outcome-accepted}
 use Rattle.build.proofs.Holding.Passed.{Passed, chosen-passed, given-passed}
 use Rattle.unit.proofs.Demand2.{chosen-demand-2, given-demand-2}
-use Rattle.record.proofs.Excesses.{log2-le, difference}
+use Rattle.record.proofs.Excesses.{excess-fits}
 use Rattle.bridge.specs.Flat.{variableAt, variableWords, allInRange, flatOf, unitAt}
 use Rattle.bridge.specs.Calls.{answer, leftBy, buildCall, givenCall}
 use Rattle.bridge.specs.Boundary.{Exact}
@@ -31,12 +29,6 @@ use Rattle.bridge.proofs.Answers.{build-left, given-left, found-read, r
 use Rattle.bridge.proofs.Carried.{made, variables-carried, carried, carried-range}
 
 -- ---- what an accepted build leaves
-
-excess-fits : (p k : ℕ) → p ≤ maxVariables → k ≤ maxVectors → SFits w64 (excessOf p k)
-unfolding excessOf
-excess-fits p k h l =
-    let d = difference p (log2Up (suc k)) (omega arith) (omega (arith, log2-le (suc k))) in
-    subst (SFits w64) (d .0) (d .1)
 
 variables-many : (n1 : ℕ) (ks : List Kind) → length ks ≤ maxVariables → length (variablesOf n1 ks) ≡ maxVariables
 variables-many n1 ks h =
@@ -56,7 +48,7 @@ module _ (n n1 : ℕ) (second : Refusal) (ks : List Kind) (cells : ℕ) (vs : Li
       let a = outcome-accepted n n1 ks cells vs t r z in
       let p = pass (a .passed) in
       let many = variables-many n1 ks (p .split .few) in
-      let fits = excess-fits (length ks) (length vs) (p .split .few) (p .list .listed .few) in
+      let fits = excess-fits (length ks) (length vs) (omega (arith, p .split .few)) (omega (arith, p .list .listed .few)) in
       let c = variables-carried n n1 ks (p .list .listed .inputs) (p .split .right) in
       rw (a .is) (carried _ many fits c, carried-range _ many fits c)
 

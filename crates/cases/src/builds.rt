@@ -161,7 +161,7 @@ pub(crate) fn variable_refusals() {
     given(Kind::One(2), Kind::One(3), Kind::One(1), 3, 2, 7, &s);
 }
 
-// Refusals 12 and 13, and the units accepted, in tables as long as needed and longer; then a unit whose excess is below 0.
+// Refusals 12 and 13, and the units accepted, in tables as long as needed and longer; then a unit with no variables.
 pub(crate) fn table_refusals() {
     let s: [u64; 7] = [16, 18, 20, 28, 32, 55, 58];
     chosen(6, 2, 7, &s, 3, 8193, 1025);

@@ -1,4 +1,5 @@
-// Lookup and recovery, run and compared: every key of the sample unit, then units that no build leaves, with each cause of refusals 6, 14 and 15.
+// Lookup and recovery, run and compared: every key of the sample unit, then units that no build leaves, with each cause of refusals 6, 14 and 15;
+// and such a unit printed.
 use libc::STDOUT_FILENO;
 use unit::Found;
 use unit::Record;
@@ -161,6 +162,13 @@ fn tables(u: Record, h: &[u16], g: &[u16], aux: &[u64]) {
     both(u, h, g, &other);
 }
 
+// A record with an excess below 0, printed with its minus on a page as long as the text.
+fn printed(u: Record, h: &[u16], g: &[u16], aux: &[u64]) {
+    let mut page = [0u8; 93];
+    print::print(Record { excess: -1, ..u }, h, g, aux, &mut page);
+    io::write_all(STDOUT_FILENO, &page);
+}
+
 fn cases(u: Record, h: &[u16], g: &[u16], aux: &[u64]) {
     all_keys(u, h, g, aux);
     all_numbers(u, h, g, aux);
@@ -171,6 +179,7 @@ fn cases(u: Record, h: &[u16], g: &[u16], aux: &[u64]) {
     other_marks(u, h, g, aux);
     short_tables(u, h, g, aux);
     tables(u, h, g, aux);
+    printed(u, h, g, aux);
 }
 
 fn main() {

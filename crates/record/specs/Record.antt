@@ -29,10 +29,18 @@ unfoldable pub log2Up : ℕ → ℕ
 unfolding firstFrom
 log2Up m = firstFrom m (λ q. leb m (2 ^ q)) 0
 
+-- SCOPE 8.6: the floor: no fewer variables tell k vectors apart
+abbrev pub floorOf : ℕ → ℕ
+floorOf k = log2Up k
+
+-- SCOPE 8.7: the floor of document 002, in which 0 counts beside the k indices
+abbrev pub floorWithZero : ℕ → ℕ
+floorWithZero k = log2Up (suc k)
+
 -- SCOPE 8.6: p less the floor for k vectors, with its sign
 unfoldable pub excessOf : ℕ → ℕ → ℤ
 unfolding log2Up
-excessOf p k = subℕ p (log2Up (suc k))
+excessOf p k = subℕ p (floorOf k)
 
 -- SCOPE 8.5: the record of an accepted list of k vectors of n bits, by the variables, n1, L and the tries
 unfoldable pub recordOf : ℕ → ℕ → ℕ → List Kind → ℕ → ℕ → Record

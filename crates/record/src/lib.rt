@@ -175,10 +175,10 @@ fn log2_up(m: u64) -> u64
     q
 }
 
-// How many more variables than the floor for k vectors.
+// How many variables more than the floor for k vectors; below 0 where they are fewer.
 pub fn excess(p: u32, k: u32) -> i64
     ensures { λ r. ⌜ r ≡ excessOf p k ⌝ }
 {
-    let q = log2_up(k as u64 + 1);
-    p as i64 - q as i64
+    let floor = log2_up(k as u64);
+    p as i64 - floor as i64
 }

@@ -1,18 +1,16 @@
 -- How many inputs are kept: the vectors of n bits are as many as the values of the variables times those of the kept inputs. Assumes nothing.
-use Prim.Native.Nat.{ℕ, zero, suc, _+_, _*_, _/_, _%_, _^_, _≤_, _<_}
+use Prim.Native.Nat.{ℕ, suc, _+_, _*_, _/_, _%_, _^_, _≤_, _<_}
 use native.Mathlib.Nat.{mod-lt}
 use native.Mathlib.Omega.{arith}
-use mathlib.Core.Path.{_≡_, refl, sym, ap, ap₂, _∙_}
-use mathlib.Core.Bool.{Bool, true, false, cond}
+use mathlib.Core.Path.{_≡_, sym, ap, ap₂, _∙_}
 use mathlib.Core.List.{List}
 use mathlib.Core.Logic.{⊎-elim}
-use borrow.Author.Tests.{eqb-true, eqb-false}
 use lib.Count.{ones}
-use lib.Dec.{eqb}
 use lib.ListN.{length}
 use lib.Pow.{pow-pos, pow-lt, shr-lt, split}
 use Rattle.lists.specs.Members.{All}
 use Rattle.lists.proofs.Tests.{le-or-lt}
+use Rattle.lists.proofs.Counting.{Into, into-le}
 use Rattle.vectors.specs.declared.Kind.{Kind}
 use Rattle.vectors.specs.Variable.{numberOf}
 use Rattle.vectors.specs.Word.{packIn}
@@ -24,39 +22,6 @@ use Rattle.span.proofs.Spans.{kept-lt}
 use Rattle.span.proofs.Unique.{unique}
 use Rattle.span.proofs.Labels.Edges.{Edge}
 use Rattle.span.proofs.Labels.Recovery.{readWith, Recovered, recovered}
-
--- the numbers below a go to numbers below b, no two to one
-record Into (a b : ℕ) (f : ℕ → ℕ) : Type 0 where
-  below : (x : ℕ) → x < a → f x < b
-  apart : (x y : ℕ) → x < a → y < a → f x ≡ f y → x ≡ y
-
-into-le : (b a : ℕ) (f : ℕ → ℕ) → Into a b f → a ≤ b
-into-le b zero f i = omega arith
-into-le zero (suc a) f i = absurd (omega (arith, i .below 0 (omega arith)))
-into-le (suc b) (suc a) f i = let h : a ≤ b = into-le b a g small in omega arith
-  where
-    -- what would go to b goes where a does
-    g : ℕ → ℕ
-    g x = cond (eqb (f x) b) (f a) (f x)
-
-    small : Into a b g
-    small =
-        record {
-          below = λ x h. go x h (eqb (f x) b) refl;
-          apart = λ x y hx hy e. both x y hx hy (eqb (f x) b) (eqb (f y) b) refl refl e;
-        }
-      where
-        go : (x : ℕ) → x < a → (t : Bool) → eqb (f x) b ≡ t → cond t (f a) (f x) < b
-        go x h true e =
-            let n : (f a ≡ b → ⊥) = λ q. let z : x ≡ a = i .apart x a (omega arith) (omega arith) (eqb-true (f x) b e ∙ sym q) in omega arith in
-            omega (arith, i .below a (omega arith))
-        go x h false e = let n : (f x ≡ b → ⊥) = eqb-false (f x) b e in omega (arith, i .below x (omega arith))
-
-        both : (x y : ℕ) → x < a → y < a → (s t : Bool) → eqb (f x) b ≡ s → eqb (f y) b ≡ t → cond s (f a) (f x) ≡ cond t (f a) (f y) → x ≡ y
-        both x y hx hy true true es et e = i .apart x y (omega arith) (omega arith) (eqb-true (f x) b es ∙ sym (eqb-true (f y) b et))
-        both x y hx hy false false es et e = i .apart x y (omega arith) (omega arith) e
-        both x y hx hy true false es et e = let z : a ≡ y = i .apart a y (omega arith) (omega arith) e in absurd (omega arith)
-        both x y hx hy false true es et e = let z : x ≡ a = i .apart x a (omega arith) (omega arith) e in absurd (omega arith)
 
 pow-le : (i j : ℕ) → 2 ^ i ≤ 2 ^ j → i ≤ j
 pow-le i j h = ⊎-elim (λ l. l) (λ l. absurd (omega (arith, pow-lt {i = j} {j = i} l))) (le-or-lt i j)

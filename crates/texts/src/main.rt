@@ -1,5 +1,4 @@
-// Runs the program on texts: each cause of `input`, then a refusal, a unit with no variables and a negative excess, and zeros in front; the
-// output is compared.
+// Runs the program on texts: each cause of `input`, then a refusal, a unit with no variables, and zeros in front; the output is compared.
 fn no_lists() {
     console::answer(b"");
     console::answer(b"6 2");

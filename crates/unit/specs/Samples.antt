@@ -3,7 +3,7 @@ use mathlib.Core.Path.{_≡_, refl}
 use mathlib.Core.Bool.{true, false}
 use mathlib.Core.List.{List, [], _∷_, _++_, map}
 use Prim.Native.Nat.{ℕ, zero, suc}
-use lib.IntN.{pos, negsuc}
+use lib.IntN.{pos}
 use lib.ListN.{take, replicate}
 use Rattle.vectors.specs.declared.Kind.{Kind}
 use Rattle.vectors.specs.declared.Kind.the-variants.{One, Two}
@@ -13,7 +13,7 @@ use Rattle.choice.specs.Choice.{ones, left, apart, choose}
 use Rattle.rows.specs.Demand.{spread}
 use Rattle.vectors.specs.Bounds.{maxVariables}
 use Rattle.vectors.specs.Variable.{blankVariable}
-use Rattle.record.specs.Record.{blankRecord}
+use Rattle.record.specs.Record.{blankRecord, log2Up, floorOf, floorWithZero}
 use Rattle.record.specs.Tables.{Tables}
 use Rattle.build.specs.Build.{Outcome, buildChosen, buildGiven, caresFrom}
 use Rattle.lookup.specs.Lookup.{found, lookupOf}
@@ -132,14 +132,14 @@ pub record Table : Type 0 where
         cells = 6;
         kept = 0;
         tries = 10;
-        excess = pos 0;
+        excess = pos 1;
         variables = row (One 1) ∷ row (One 2) ∷ column (One 3) ∷ replicate 21 blankVariable;
       };
     };
     tables = record { h = 0 ∷ 1 ∷ 2 ∷ 3 ∷ []; g = 1 ∷ 2 ∷ 3 ∷ 4 ∷ 0 ∷ 0 ∷ []; aux = 0 ∷ 0 ∷ 1 ∷ 2 ∷ 3 ∷ [] };
   }
   pub spread-holds : spread 4 (caresFrom 1 2 (One 1 ∷ One 2 ∷ One 3 ∷ []) (0 ∷ 1 ∷ 2 ∷ 3 ∷ [])) ≡ true
-  -- SCOPE 15.9: one vector, no variables
+  -- SCOPE 15.9: one vector, no variables; the excess is 0 by customers' request 2
   pub alone : buildChosen 6 1 1 (16 ∷ []) (nines 1 1 2) ≡ record {
     built = record {
       refusal = 0;
@@ -152,7 +152,7 @@ pub record Table : Type 0 where
         cells = 1;
         kept = 63;
         tries = 1;
-        excess = negsuc 0;
+        excess = pos 0;
         variables = replicate maxVariables blankVariable;
       };
     };
@@ -163,9 +163,33 @@ pub record Table : Type 0 where
   pub beyond : buildChosen 6 1 1 (64 ∷ []) (nines 1 1 2) ≡ refusal 6 1 (nines 1 1 2)
   -- SCOPE 15.11: no vectors
   pub empty : buildChosen 6 1 1 [] (nines 1 1 1) ≡ refusal 3 0 (nines 1 1 1)
+  -- SCOPE 15.14: eight vectors, three variables, no excess; the two floors for eight
+  pub eight : buildChosen 3 1 8 (0 ∷ 1 ∷ 2 ∷ 3 ∷ 4 ∷ 5 ∷ 6 ∷ 7 ∷ []) (nines 4 8 9) ≡ record {
+    built = record {
+      refusal = 0;
+      place = 0;
+      unit = record {
+        n = 3;
+        p = 3;
+        n1 = 2;
+        k = 8;
+        cells = 8;
+        kept = 0;
+        tries = 16;
+        excess = pos 0;
+        variables = row (One 1) ∷ row (One 2) ∷ column (One 3) ∷ replicate 21 blankVariable;
+      };
+    };
+    tables = record {
+      h = 0 ∷ 2 ∷ 4 ∷ 6 ∷ [];
+      g = 1 ∷ 5 ∷ 2 ∷ 6 ∷ 3 ∷ 7 ∷ 4 ∷ 8 ∷ [];
+      aux = 0 ∷ 0 ∷ 1 ∷ 2 ∷ 3 ∷ 0 ∷ 1 ∷ 2 ∷ 3 ∷ [];
+    };
+  }
+  pub eight-floors : (floorOf 8 ≡ 3) × (floorWithZero 8 ≡ 4)
 
 pub samples : Table
-unfolding ones left apart choose buildChosen buildGiven lookupOf recoverOf spread caresFrom
+unfolding ones left apart choose buildChosen buildGiven lookupOf recoverOf spread caresFrom log2Up
 samples = record {
   degree-1 = refl;
   degree-1-left = refl;
@@ -184,4 +208,6 @@ samples = record {
   equal = refl;
   beyond = refl;
   empty = refl;
+  eight = refl;
+  eight-floors = (refl, refl);
 }

@@ -1,5 +1,5 @@
-// The index generation unit: the entries of the library, handed on from the crates that have them. What they promise together, demands 2
-// and 3 and the sample units, is stated in specs/.
+// The index generation unit: the entries of the library, handed on from the crates that have them. What they promise together, the demands,
+// the sign of the excess and the sample units, is stated in specs/.
 pub use build::Built;
 pub use build::build_chosen;
 pub use build::build_given;

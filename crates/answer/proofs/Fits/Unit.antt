@@ -2,14 +2,12 @@
 use Prim.Native.Nat.{ℕ, suc, _+_, _-_, _*_, _^_, _≤_, _<_}
 use native.Mathlib.Omega.{arith}
 use native.Mathlib.Nat.{lt-of-lt-of-le}
-use mathlib.Core.Path.{_≡_, ap, subst}
+use mathlib.Core.Path.{_≡_, ap}
 use mathlib.Core.List.{List, [], _∷_, map}
 use lib.IntN.{ℤ}
 use lib.ListN.{length, take, drop, length-map, length-replicate}
 use lib.Pow.{pow-mono}
 use lib.Seq.{take-at}
-use mir.Syntax.{w64}
-use mir.Val.{SFits}
 use Rattle.lists.specs.Members.{All}
 use Rattle.lists.proofs.Entries.Members.{all-map}
 use Rattle.lists.proofs.Entries.Alls as alls
@@ -21,9 +19,9 @@ use Rattle.vectors.proofs.Words.Laws.{word-lt}
 use Rattle.span.specs.Span.{kept}
 use Rattle.span.proofs.Spans.{kept-lt}
 use Rattle.rows.specs.Place.{Placing}
-use Rattle.record.specs.Record.{recordOf, excessOf, log2Up}
+use Rattle.record.specs.Record.{recordOf, excessOf}
 use Rattle.record.specs.Tables.{Tables}
-use Rattle.record.proofs.Excesses.{log2-le, difference}
+use Rattle.record.proofs.Excesses.{excess-fits}
 use Rattle.build.specs.declared.Refusal.{Refusal}
 use Rattle.build.specs.Build.{caresFrom, placingOf, auxOf}
 use Rattle.build.proofs.Writing.Written.{kept-room}
@@ -77,12 +75,6 @@ module _ (n n1 : ℕ) (second : Refusal) (ks : List Kind) (cells : ℕ) (vs : Li
         ),
       )
 
-  excess-fits : SFits w64 excess
-  unfolding excessOf
-  excess-fits =
-      let d = difference (length ks) (log2Up (suc (length vs))) (omega (arith, R .split .few)) (omega (arith, log2-le (suc (length vs)), R .list .listed .few)) in
-      subst (λ (z : ℤ). SFits w64 z) (d .0) (d .1)
-
   kept-low : kept n ks < 2 ^ 64
   kept-low = lt-of-lt-of-le (kept-lt n ks) (pow-mono {i = n} {j = maxInputs} (R .list .listed .inputs))
 
@@ -111,8 +103,8 @@ module _ (n n1 : ℕ) (second : Refusal) (ks : List Kind) (cells : ℕ) (vs : Li
       rw text-is
       (omega (
         arith,
-        page-low numbers excess (map maskOf ks) (kept n ks) (P .state .h) (P .state .g) (auxOf n n1 ks vs) numbers-low excess-fits
-            (masks-low n (R .list .listed .inputs) ks (R .split .right)) kept-low (placed .displacements) (placed .words) words-low,
+        page-low numbers excess (map maskOf ks) (kept n ks) (P .state .h) (P .state .g) (auxOf n n1 ks vs) numbers-low
+            (excess-fits (length ks) (length vs) (omega (arith, R .split .few)) (omega (arith, R .list .listed .few))) (masks-low n (R .list .listed .inputs) ks (R .split .right)) kept-low (placed .displacements) (placed .words) words-low,
         length-map ks maskOf,
         R .split .few,
         placing-rows n1 ks cells vs,
