@@ -33,7 +33,7 @@ static bool checks_right(const struct memory *m, size_t length)
     return true;
 }
 
-static void write_to(struct trial *t, struct counts *counts, struct random *r, size_t length)
+bool write_to(struct trial *t, struct counts *counts, struct random *r, size_t length)
 {
     uint64_t answers[2];
     lend_target(t, r, length);
@@ -50,6 +50,7 @@ static void write_to(struct trial *t, struct counts *counts, struct random *r, s
     if (!checks_right(&t->after[0], answers[0] / 256))
         report_difference(t, "a block's check is wrong in both", WRITE, length, answers);
     counts->refusals[WRITE][answers[0] % 256]++;
+    return answers[0] % 256 == 0;
 }
 
 static size_t too_short(struct random *r, size_t length)
@@ -62,11 +63,11 @@ static size_t too_short(struct random *r, size_t length)
     }
 }
 
-void write_both(struct trial *t, struct counts *counts, struct random *r)
+bool write_both(struct trial *t, struct counts *counts, struct random *r)
 {
     uint64_t answer = expected_write(t->after[0].record + GUARD, &t->told, FILE_ROOM);
     size_t length = answer % 256 == 0 ? answer / 256 : random_between(r, BLOCK, 8 * BLOCK);
     write_to(t, counts, r, too_short(r, length));
     write_to(t, counts, r, length + random_between(r, 1, 2 * BLOCK));
-    write_to(t, counts, r, length);
+    return write_to(t, counts, r, length);
 }

@@ -78,6 +78,12 @@ void memory_lend_file(struct memory *m, struct random *r, size_t length)
     junk(r, m->file, length + 2 * GUARD);
 }
 
+void memory_put_file(struct memory *m, struct random *r, const uint8_t *bytes, size_t length)
+{
+    memory_lend_file(m, r, length);
+    memcpy(m->file + GUARD, bytes, length);
+}
+
 void memory_copy(struct memory *to, const struct memory *from)
 {
     memcpy(to->length, from->length, sizeof to->length);

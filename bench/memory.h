@@ -36,6 +36,9 @@ void memory_twin(struct memory *to, const struct memory *from, const struct call
 /* A file of this length, junk with other guard bytes than before. */
 void memory_lend_file(struct memory *m, struct random *r, size_t length);
 
+/* These bytes as the file. */
+void memory_put_file(struct memory *m, struct random *r, const uint8_t *bytes, size_t length);
+
 void memory_copy(struct memory *to, const struct memory *from);
 
 /* The slices of one part, without the guard words. */

@@ -5,7 +5,7 @@
 #include <stdlib.h>
 
 static const char *const side_names[2] = {"igu", "twin"};
-static const char *const entry_names[ENTRIES] = {"build", "build_given", "lookup", "recover", "write"};
+static const char *const entry_names[ENTRIES] = {"build", "build_given", "lookup", "recover", "write", "read"};
 
 /* The refusals that docs/SCOPE.md lets each entry give, as bits. */
 static const unsigned possible[ENTRIES] = {
@@ -14,6 +14,7 @@ static const unsigned possible[ENTRIES] = {
     [LOOKUP] = 0x4041,      /* 0, 6, 14 */
     [RECOVER] = 0xC001,     /* 0, 14, 15 */
     [WRITE] = 0x104001,     /* 0, 14, 20 */
+    [READ] = 0x1E00001,     /* 0, 21 to 24 */
 };
 
 bool refusal_possible(enum entry entry, uint64_t refusal)
@@ -39,10 +40,14 @@ static void print_call(const struct call *c)
     printf("L %zu, k %zu, h_len %zu, g_len %zu, aux_len %zu\n", c->L, c->k, c->length.h, c->length.g, c->length.aux);
 }
 
-/* The unit as it was handed to any other entry than the builds, damaged or not. */
-static void print_unit(const struct trial *t)
+/* The file as it was handed to a read; the unit as it was handed to any other entry but the builds, damaged or not. */
+static void print_handed(const struct trial *t, enum entry entry)
 {
     const struct memory *m = &t->before[0];
+    if (entry == READ) {
+        print_part(m, FILE_BYTES, m->length[FILE_BYTES]);
+        return;
+    }
     printf("unit handed over, with h_len %zu, g_len %zu, aux_len %zu\n", t->told.h, t->told.g, t->told.aux);
     print_part(m, RECORD, m->length[RECORD]);
     print_part(m, H, t->told.h);
@@ -78,7 +83,7 @@ _Noreturn void report_difference(const struct trial *t, const char *what, enum e
     print_part(&t->before[0], VECTORS, t->call.k);
     bool builds = entry == BUILD || entry == BUILD_GIVEN;
     if (!builds)
-        print_unit(t);
+        print_handed(t, entry);
     printf("entry %s", entry_names[entry]);
     if (!builds)
         printf(", argument %" PRIu64, argument);
@@ -118,12 +123,26 @@ static void print_row(const struct counts *counts, int number)
     putchar('\n');
 }
 
+static void print_spoils(const struct counts *counts)
+{
+    puts("\n| Change to a file | Files | Refusal |\n|---|---|---|");
+    for (size_t i = 0; i < SPOILS; i++) {
+        const struct spoil *spoil = spoil_at(i);
+        printf("| %s | %" PRIu64 " |", spoil->name, counts->spoils[i]);
+        if (spoil->refusal == DEPENDS)
+            puts(" 23 or none |");
+        else
+            printf(spoil->refusal == 0 ? " none |\n" : " %" PRIu64 " |\n", spoil->refusal);
+    }
+}
+
 void report_counts(const struct counts *counts)
 {
     puts("| Kind of case | Cases |\n|---|---|");
     for (size_t i = 0; i < kind_count; i++)
         printf("| %s | %" PRIu64 " |\n", kinds[i].name, counts->kinds[i]);
-    puts("\n| Refusal | build | build_given | lookup | recover | write |\n|---|---|---|---|---|---|");
+    print_spoils(counts);
+    puts("\n| Refusal | build | build_given | lookup | recover | write | read |\n|---|---|---|---|---|---|---|");
     for (int number = 0; number < REFUSALS; number++)
         if (any_entry(number))
             print_row(counts, number);
@@ -143,5 +162,10 @@ bool report_coverage(const struct counts *counts)
             all = false;
         }
     }
+    for (size_t i = 0; i < SPOILS; i++)
+        if (counts->spoils[i] == 0) {
+            printf("never tried on a file: %s\n", spoil_at(i)->name);
+            all = false;
+        }
     return all;
 }

@@ -3,10 +3,11 @@
 #define REPORT_H
 
 #include "memory.h"
+#include "spoil.h"
 
-enum entry { BUILD, BUILD_GIVEN, LOOKUP, RECOVER, WRITE, ENTRIES };
+enum entry { BUILD, BUILD_GIVEN, LOOKUP, RECOVER, WRITE, READ, ENTRIES };
 
-#define REFUSALS 21
+#define REFUSALS 25
 #define KINDS_AT_MOST 32
 
 /* One case: the call, and for each of the two the memory before and after it. */
@@ -22,6 +23,7 @@ struct trial {
 struct counts {
     uint64_t kinds[KINDS_AT_MOST];
     uint64_t refusals[ENTRIES][REFUSALS];
+    uint64_t spoils[SPOILS];
 };
 
 /* Prints the case and both answers, and ends the program with status 1; argument is lookup's key, recovery's index
@@ -30,7 +32,7 @@ _Noreturn void report_difference(const struct trial *t, const char *what, enum e
 
 void report_counts(const struct counts *counts);
 
-/* Names each refusal that an entry can give and never gave; true when there is none. */
+/* Names each refusal that an entry can give and never gave, and each change to a file that was never tried; true when there is none. */
 bool report_coverage(const struct counts *counts);
 
 bool refusal_possible(enum entry entry, uint64_t refusal);

@@ -17,6 +17,12 @@ static uint64_t record[IGU_RECORD_WORDS], aux[K + 1];
 static uint16_t h[ROWS], g[L];
 static uint8_t files[2][IGU_FILE_BYTES];
 
+/* What is read. */
+static struct unit {
+    uint64_t record[IGU_RECORD_WORDS], aux[K + 1];
+    uint16_t h[ROWS], g[L];
+} units[2];
+
 /* The variables are x_1 to x_24, so the other inputs are kept. */
 static void make_largest(void)
 {
@@ -43,6 +49,18 @@ static uint64_t write_twin(void)
     return twin_write(record, h, ROWS, g, L, aux, K + 1, files[1], IGU_FILE_BYTES);
 }
 
+static uint64_t read_igu(void)
+{
+    struct unit *u = &units[0];
+    return igu_read(files[0], IGU_FILE_BYTES, u->h, ROWS, u->g, L, u->aux, K + 1, u->record);
+}
+
+static uint64_t read_twin(void)
+{
+    struct unit *u = &units[1];
+    return twin_read(files[1], IGU_FILE_BYTES, u->h, ROWS, u->g, L, u->aux, K + 1, u->record);
+}
+
 static void time_both(const char *what, uint64_t (*const ways[2])(void), uint64_t answer)
 {
     static double times[2][ROUNDS];
@@ -55,10 +73,13 @@ static void time_both(const char *what, uint64_t (*const ways[2])(void), uint64_
 
 void time_files(void)
 {
-    static uint64_t (*const writes[2])(void) = {write_igu, write_twin};
+    static uint64_t (*const writes[2])(void) = {write_igu, write_twin}, (*const reads[2])(void) = {read_igu, read_twin};
     make_largest();
     printf("\n| The largest unit as a file | igu, ns | twin, ns | igu / twin | wanted <= %.1f |\n|---|---|---|---|---|\n", FILE_WANTED);
     time_both("write", writes, 256 * IGU_FILE_BYTES);
     if (memcmp(files[0], files[1], IGU_FILE_BYTES) != 0)
         stop("the files differ");
+    time_both("read", reads, 0);
+    if (memcmp(&units[0], &units[1], sizeof units[0]) != 0)
+        stop("the units read differ");
 }

@@ -334,6 +334,9 @@ static void clear_tables(const unit *u) {
     memset(u->aux, 0, sizeof *u->aux * (u->k + 1));
 }
 
+/* The smallest m with 2^m at least k, which the excess is counted from. */
+static uint64_t floor_for(uint64_t k) { return 63 - (uint64_t)__builtin_clzll(2 * k - 1); }
+
 /* Checks 12 and 13; the tables and the record. */
 static uint64_t place_rows(const unit *u, const uint64_t *images, uint64_t *record) {
     shelf s;
@@ -350,8 +353,7 @@ static uint64_t place_rows(const unit *u, const uint64_t *images, uint64_t *reco
         tries += displacement + 1;
     }
     for (uint64_t v = 1; v <= u->k; v++) u->aux[v] = images[v - 1] & low_bits(u->n1 + u->n - u->p);
-    uint64_t floor = 63 - (uint64_t)__builtin_clzll(2 * u->k - 1); /* the smallest m with 2^m at least k */
-    uint64_t numbers[] = {u->n, u->p, u->n1, u->k, u->L, u->kept, tries, u->p - floor};
+    uint64_t numbers[] = {u->n, u->p, u->n1, u->k, u->L, u->kept, tries, u->p - floor_for(u->k)};
     memcpy(record, numbers, sizeof numbers);
     for (uint64_t t = 0; t < u->p; t++) record[AT_VARIABLES + t] = u->variable[t] | (uint64_t)(t >= u->n1) << 16;
     return 0;
@@ -509,6 +511,19 @@ int twin_sound(const uint64_t *record, size_t h_len, size_t g_len, size_t aux_le
     forest f = {{0}, {0}};
     if (!read_unit(record, h_len, g_len, aux_len, 0, &values)) return 0;
     return join_inputs(&f, record + AT_VARIABLES, record[AT_P], 0) == 0 && kept_inputs(&f, record[AT_N]) == record[AT_KEPT];
+}
+
+/* With any n - p inputs as the kept ones, all else that is asked of the record can be tested. */
+int twin_settle(uint64_t *record) {
+    uint64_t n = record[AT_N], p = record[AT_P], values;
+    forest f = {{0}, {0}};
+    record[AT_KEPT] = low_bits(n - p);
+    if (!read_unit(record, SIZE_MAX, SIZE_MAX, SIZE_MAX, 0, &values)) return 0;
+    if (join_inputs(&f, record + AT_VARIABLES, p, 0) != 0) return 0;
+    record[AT_KEPT] = kept_inputs(&f, n);
+    record[AT_EXCESS] = p - floor_for(record[AT_K]);
+    for (uint64_t t = record[AT_N1]; t < p; t++) record[AT_VARIABLES + t] |= 1 << 16;
+    return 1;
 }
 
 uint64_t twin_recover(const uint64_t record[TWIN_RECORD_WORDS], const uint16_t *h, size_t h_len, const uint16_t *g, size_t g_len,

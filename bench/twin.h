@@ -25,4 +25,7 @@ uint64_t twin_recover(const uint64_t record[TWIN_RECORD_WORDS], const uint16_t *
 uint64_t twin_write(const uint64_t record[TWIN_RECORD_WORDS], const uint16_t *h, size_t h_len, const uint16_t *g, size_t g_len,
                     const uint64_t *aux, size_t aux_len, uint8_t *file, size_t file_len);
 
+uint64_t twin_read(const uint8_t *file, size_t file_len, uint16_t *h, size_t h_len, uint16_t *g, size_t g_len, uint64_t *aux,
+                   size_t aux_len, uint64_t record[TWIN_RECORD_WORDS]);
+
 #endif

@@ -32,14 +32,25 @@ static uint32_t check_of(const uint8_t *block) {
     return sum % MODULUS | rest % MODULUS << 16;
 }
 
-/* ---- Writing. ---- */
+/* ---- The layout. ---- */
 
-static uint64_t blocks_for(uint64_t bytes) { return (bytes + PAYLOAD - 1) / PAYLOAD; }
+enum { TABLES = 3, VARIABLES_AT = 15 };
+static const uint32_t kinds[TABLES] = {ROWS, CELLS, WORDS};
+static const uint8_t letters[4] = {0x49, 0x47, 0x55, 0x31};
 
-static uint64_t file_length(const uint64_t *record) {
-    uint64_t rows = blocks_for((uint64_t)2 << record[AT_N1]), cells = blocks_for(2 * record[AT_L]);
-    return BLOCK * (1 + rows + cells + blocks_for(8 * (record[AT_K] + 1)));
+/* Finds the bytes of each table; tells those of the file. */
+static size_t measure(const uint64_t *record, size_t size[TABLES]) {
+    size_t blocks = 1;
+    size[0] = sizeof(uint16_t) << record[AT_N1];
+    size[1] = sizeof(uint16_t) * record[AT_L];
+    size[2] = sizeof(uint64_t) * (record[AT_K] + 1);
+    for (int t = 0; t < TABLES; t++) blocks += (size[t] + PAYLOAD - 1) / PAYLOAD;
+    return BLOCK * blocks;
 }
+
+static uint32_t opening(uint32_t kind, uint32_t number) { return kind | VERSION << 8 | number << 16; }
+
+/* ---- Writing. ---- */
 
 static void put(uint8_t *to, uint64_t number, unsigned bytes) {
     for (; bytes > 0; bytes--, number >>= 8) *to++ = (uint8_t)number;
@@ -48,42 +59,108 @@ static void put(uint8_t *to, uint64_t number, unsigned bytes) {
 /* A block around its payload, which is filled up with 0. The check comes later: to sum what was just written takes longer. A memcpy of
  * this size would be compiled into a slow loop of its own. */
 static void put_block(uint8_t *block, uint32_t kind, uint32_t number, const void *payload, size_t size) {
-    put(block, kind | VERSION << 8 | number << 16, 4);
+    put(block, opening(kind, number), 4);
     memmove(block + PAYLOAD_AT, payload, size);
     memset(block + PAYLOAD_AT + size, 0, PAYLOAD - size);
 }
 
 /* The blocks of a table, from the one with this number on; tells the number that comes next. */
-static uint32_t put_table(uint8_t *file, uint32_t number, uint32_t kind, const void *words, size_t size) {
-    const uint8_t *from = words;
+static uint32_t put_table(uint8_t *file, uint32_t number, uint32_t kind, const uint8_t *words, size_t size) {
     for (size_t done = 0; done < size; done += PAYLOAD, number++) {
         size_t left = size - done;
-        put_block(file + BLOCK * number, kind, number, from + done, left < PAYLOAD ? left : PAYLOAD);
+        put_block(file + BLOCK * number, kind, number, words + done, left < PAYLOAD ? left : PAYLOAD);
     }
     return number;
 }
 
 static void put_head(uint8_t *file, const uint64_t *record) {
-    uint8_t head[15 + 2 * TWIN_VARIABLES] = {0x49, 0x47, 0x55, 0x31};
+    uint8_t head[VARIABLES_AT + 2 * TWIN_VARIABLES] = {0};
+    memcpy(head, letters, sizeof letters);
     put(head + 4, record[AT_N], 1);
     put(head + 5, record[AT_P], 1);
     put(head + 6, record[AT_N1], 1);
     put(head + 7, record[AT_K], 2);
     put(head + 9, record[AT_L], 2);
     put(head + 11, record[AT_TRIES], 4);
-    for (uint64_t t = 0; t < record[AT_P]; t++) put(head + 15 + 2 * t, record[AT_VARIABLES + t], 2);
+    for (uint64_t t = 0; t < record[AT_P]; t++) put(head + VARIABLES_AT + 2 * t, record[AT_VARIABLES + t], 2);
     put_block(file, HEAD, 0, head, sizeof head);
 }
 
 uint64_t twin_write(const uint64_t record[TWIN_RECORD_WORDS], const uint16_t *h, size_t h_len, const uint16_t *g, size_t g_len,
                     const uint64_t *aux, size_t aux_len, uint8_t *file, size_t file_len) {
+    const void *const words[TABLES] = {h, g, aux};
+    size_t size[TABLES];
     if (!twin_sound(record, h_len, g_len, aux_len)) return 14;
-    uint64_t length = file_length(record);
+    size_t length = measure(record, size);
     if (file_len < length) return 20;
     put_head(file, record);
-    uint32_t number = put_table(file, 1, ROWS, h, sizeof *h << record[AT_N1]);
-    number = put_table(file, number, CELLS, g, sizeof *g * record[AT_L]);
-    put_table(file, number, WORDS, aux, sizeof *aux * (record[AT_K] + 1));
+    for (uint32_t t = 0, number = 1; t < TABLES; t++) number = put_table(file, number, kinds[t], words[t], size[t]);
     for (uint8_t *block = file; block < file + length; block += BLOCK) put(block + CHECK_AT, check_of(block), 4);
-    return 256 * length;
+    return 256 * (uint64_t)length;
+}
+
+/* ---- Reading. ---- */
+
+static const uint8_t zeros[PAYLOAD];
+
+static uint64_t take(const uint8_t *from, unsigned bytes) {
+    uint64_t number = 0;
+    while (bytes > 0) number = number << 8 | from[--bytes];
+    return number;
+}
+
+/* The record, from a head that some sound unit has; 0 for any other. */
+static int take_head(const uint8_t *file, uint64_t *record) {
+    const uint8_t *head = file + PAYLOAD_AT;
+    uint64_t p = head[5];
+    size_t used = VARIABLES_AT + 2 * p;
+    if (take(file, 4) != opening(HEAD, 0) || memcmp(head, letters, sizeof letters) != 0) return 0;
+    if (p > TWIN_VARIABLES || memcmp(head + used, zeros, PAYLOAD - used) != 0) return 0;
+    record[AT_N] = head[4];
+    record[AT_P] = p;
+    record[AT_N1] = head[6];
+    record[AT_K] = take(head + 7, 2);
+    record[AT_L] = take(head + 9, 2);
+    record[AT_TRIES] = take(head + 11, 4);
+    for (uint64_t t = 0; t < p; t++) record[AT_VARIABLES + t] = take(head + VARIABLES_AT + 2 * t, 2);
+    return twin_settle(record);
+}
+
+/* The number after the blocks of a table from this one on, or 0 where one of them opens wrongly or has more than the words. */
+static uint32_t past_table(const uint8_t *file, uint32_t number, uint32_t kind, size_t size) {
+    for (; size > 0; number++) {
+        const uint8_t *block = file + BLOCK * number;
+        size_t used = size < PAYLOAD ? size : PAYLOAD;
+        if (take(block, 4) != opening(kind, number) || memcmp(block + PAYLOAD_AT + used, zeros, PAYLOAD - used) != 0) return 0;
+        size -= used;
+    }
+    return number;
+}
+
+static uint32_t take_table(const uint8_t *file, uint32_t number, uint8_t *words, size_t size) {
+    for (size_t done = 0; done < size; done += PAYLOAD, number++) {
+        size_t left = size - done;
+        memmove(words + done, file + BLOCK * number + PAYLOAD_AT, left < PAYLOAD ? left : PAYLOAD);
+    }
+    return number;
+}
+
+uint64_t twin_read(const uint8_t *file, size_t file_len, uint16_t *h, size_t h_len, uint16_t *g, size_t g_len, uint64_t *aux,
+                   size_t aux_len, uint64_t record[TWIN_RECORD_WORDS]) {
+    void *const words[TABLES] = {h, g, aux};
+    uint64_t found[TWIN_RECORD_WORDS] = {0};
+    size_t size[TABLES];
+    memset(record, 0, sizeof found);
+    if (file_len == 0 || file_len % BLOCK != 0) return 21;
+    for (const uint8_t *block = file; block < file + file_len; block += BLOCK) {
+        if (take(block + CHECK_AT, 4) != check_of(block)) return 22;
+    }
+    if (!take_head(file, found) || measure(found, size) != file_len) return 23;
+    for (uint32_t t = 0, number = 1; t < TABLES; t++) {
+        if ((number = past_table(file, number, kinds[t], size[t])) == 0) return 23;
+    }
+    if (h_len >> found[AT_N1] == 0 || g_len < found[AT_L] || aux_len <= found[AT_K]) return 24;
+    for (uint32_t t = 0, number = 1; t < TABLES; t++) number = take_table(file, number, words[t], size[t]);
+    memcpy(record, found, sizeof found);
+    return 0;
 }

@@ -12,7 +12,8 @@
  *
  * Threads. The functions keep nothing between calls. Calls may run in several threads at once, as long as no call writes memory that
  * another one is using: each build has a record and tables of its own; the other calls may share those of a build that has ended, each
- * recovery with its own place for the vector, each write with a file of its own. */
+ * recovery with its own place for the vector, each write with a file of its own. A read has a record and tables of its own, as a build
+ * has. */
 #ifndef IGU_H
 #define IGU_H
 
@@ -77,6 +78,15 @@ uint64_t igu_recover(const uint64_t record[IGU_RECORD_WORDS], const uint16_t *h,
  * and tries beyond 32 bits do not come into the file. Bytes of the target past the file keep their value. */
 uint64_t igu_write(const uint64_t record[IGU_RECORD_WORDS], const uint16_t *h, size_t h_len, const uint16_t *g, size_t g_len,
                    const uint64_t *aux, size_t aux_len, uint8_t *file, size_t file_len);
+
+/* Reads a file into a record and tables, and returns the refusal. It accepts the files that igu_write gives and no other. On acceptance
+ * record has n, p, n1, k, L, tries and the variables of the file, part marks by n1, kept inputs and excess as a build works them out, and
+ * H[0..2^n1), G[0..L) and AUX[0..k] have the words of the file; so lookups and recoveries answer as they did on the unit written. No
+ * other word is written. On a refusal record is all 0 and the tables are as they were. Refusal 21: file_len is 0 or no multiple of 512;
+ * 22: a block's check is wrong; 23: anything else in the file is wrong; 24: h_len, g_len or aux_len is less than the unit needs (4,096,
+ * 8,192 and 1,024 always suffice). */
+uint64_t igu_read(const uint8_t *file, size_t file_len, uint16_t *h, size_t h_len, uint16_t *g, size_t g_len, uint64_t *aux,
+                  size_t aux_len, uint64_t record[IGU_RECORD_WORDS]);
 
 #ifdef __cplusplus
 }

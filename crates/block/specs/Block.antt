@@ -1,10 +1,10 @@
 -- A block of 512 bytes: its opening, its payload and its check.
 use Prim.Native.Nat.{ℕ, _+_, _-_, _*_, _%_, _<_}
 use mathlib.Core.Path.{_≡_}
-use mathlib.Core.Bool.{cond}
+use mathlib.Core.Bool.{Bool, true, false, cond, _&&_}
 use mathlib.Core.List.{List, [], _∷_, _++_}
 use lib.Dec.{eqb}
-use lib.ListN.{length, getD, take, set, replicate}
+use lib.ListN.{length, getD, take, drop, set, replicate}
 use Rattle.lists.specs.Members.{All}
 use Rattle.block.specs.declared.Opening.{Opening}
 use Rattle.block.specs.Bytes.{littleOf}
@@ -54,6 +54,18 @@ sealed bytes = bytes ++ checkOf bytes
 unfoldable pub blockOf : Opening → List ℕ → List ℕ
 unfolding openingOf checkOf
 blockOf o payload = sealed (padded checkAt (openingOf o ++ payload))
+
+-- the same bytes in the same places
+unfoldable pub same : List ℕ → List ℕ → Bool
+same [] [] = true
+same [] (b ∷ bs) = false
+same (a ∷ l) [] = false
+same (a ∷ l) (b ∷ bs) = eqb a b && same l bs
+
+-- SCOPE 20.3: whether a block ends in the check of its other bytes
+unfoldable pub rightCheck : List ℕ → Bool
+unfolding same checkOf
+rightCheck block = same (drop checkAt block) (checkOf (take checkAt block))
 
 -- lent bytes that are as long as a block become it, others stay as they are
 abbrev pub inBlock : List ℕ → List ℕ → List ℕ

@@ -19,8 +19,11 @@ use Rattle.file.specs.declared.Written.{Written}
 use Rattle.file.specs.Write as file
 use Rattle.file.specs.Write.{writeOf}
 use Rattle.file.proofs.Outcomes.{written-few}
+use Rattle.file.specs.Read.{Reading, readOf}
+use Rattle.load.specs.declared.Loaded.{Loaded}
+use Rattle.load.specs.Load as load
 use Rattle.bridge.specs.Flat.{variableAt, flatOf, variableWords, unitAt, allInRange}
-use Rattle.bridge.specs.Calls.{answer, left, leftBy, buildCall, givenCall, foundIn, recoveredIn, lookupCall, Filed, filed, filedBy, writeCall}
+use Rattle.bridge.specs.Calls.{answer, left, leftBy, buildCall, givenCall, foundIn, recoveredIn, lookupCall, Filed, filed, filedBy, writeCall, readCall}
 
 -- ---- the builds
 
@@ -88,3 +91,11 @@ module _ (words : List ℕ) (t : Tables) (target : List ℕ) where
 
 pub length-fits : (u : Record) (t : Tables) (target : List ℕ) (w : Written) (l : List ℕ) → file.after w l ≡ writeOf u t target → w .length < 65536
 length-fits u t target w l e = omega (arith, written-few u t target, ap (λ (o : file.Outcome). o .written .length) e)
+
+-- ---- reading a file
+
+pub read-left : (r : Loaded) (h g aux : List ℕ) (file : List ℕ) (t : Tables) (words : List ℕ) → load.after r (lent h g aux) ≡ readOf file t → words ≡ flatOf (r .unit)
+    → left (r .refusal) words (lent h g aux) ≡ readCall file t
+unfolding readCall
+read-left r h g aux file t words e f =
+    ap (λ (w : List ℕ). left (r .refusal) w (lent h g aux)) f ∙ ap (λ (o : Reading). left (o .refusal) (flatOf (o .unit)) (o .tables)) e

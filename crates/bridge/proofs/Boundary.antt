@@ -52,15 +52,15 @@ module _ (n n1 : ℕ) (second : Refusal) (ks : List Kind) (cells : ℕ) (vs : Li
       let c = variables-carried n n1 ks (p .list .listed .inputs) (p .split .right) in
       rw (a .is) (carried _ many fits c, carried-range _ many fits c)
 
-abbrev Carried : Outcome → Type 0
+abbrev pub Carried : Outcome → Type 0
 Carried o = o .built .refusal ≡ 0 → (unitAt (flatOf (o .built .unit)) ≡ o .built .unit) × (allInRange (variableWords (flatOf (o .built .unit))) ≡ true)
 
-chosen-carried : (n degree cells : ℕ) (vs : List ℕ) (t : Tables) → Carried (buildChosen n degree cells vs t)
+pub chosen-carried : (n degree cells : ℕ) (vs : List ℕ) (t : Tables) → Carried (buildChosen n degree cells vs t)
 unfolding buildChosen
 chosen-carried n degree cells vs t =
     left-carried n (rowsShare (length (chosenKinds n degree vs))) _ (chosenKinds n degree vs) cells vs t (chosenRefusal n degree (chosenKinds n degree vs) cells vs t) (chosen-passed n degree cells vs t)
 
-given-carried : (n : ℕ) (variables : List Variable) (p n1 cells : ℕ) (vs : List ℕ) (t : Tables) → length variables ≡ maxVariables → Carried (buildGiven n variables p n1 cells vs t)
+pub given-carried : (n : ℕ) (variables : List Variable) (p n1 cells : ℕ) (vs : List ℕ) (t : Tables) → length variables ≡ maxVariables → Carried (buildGiven n variables p n1 cells vs t)
 unfolding buildGiven
 given-carried n variables p n1 cells vs t e =
     left-carried n n1 _ (kindsOf (take p variables)) cells vs t (givenRefusal n p n1 (kindsOf (take p variables)) cells vs t) (given-passed n variables p n1 cells vs t e)
@@ -68,12 +68,12 @@ given-carried n variables p n1 cells vs t e =
 -- ---- demand 2 at the boundary
 
 -- an answer of 0 is no refusal
-no-refusal : (r place : ℕ) → answer r place ≡ 0 → r ≡ 0
+pub no-refusal : (r place : ℕ) → answer r place ≡ 0 → r ≡ 0
 no-refusal r place e = omega arith
 
 module _ (n : ℕ) (vs : List ℕ) (o : Outcome) (d : Demand2 lookupOf recoverOf n vs o)
     (c : Carried o) where
-  exact : Exact n vs (leftBy o)
+  pub exact : Exact n vs (leftBy o)
   exact =
       record {
         lookup-exact = λ e x l.

@@ -4,3 +4,4 @@ pub mod Records
 pub mod Answers
 pub mod Carried
 pub mod Boundary
+pub mod Files

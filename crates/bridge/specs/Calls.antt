@@ -10,6 +10,7 @@ use Rattle.lookup.specs.Lookup.{notFound, lookupOf}
 use Rattle.recover.specs.Recover.{notRecovered, recoverOf}
 use Rattle.file.specs.Write as file
 use Rattle.file.specs.Write.{writeOf}
+use Rattle.file.specs.Read.{readOf}
 use Rattle.bridge.specs.Flat.{variableAt, flatOf, unitAt, variableWords, allInRange}
 
 -- the answer: the refusal, and above its 8 bits the place or the index
@@ -64,3 +65,8 @@ filedBy o = filed (answer (o .written .refusal) (o .written .length)) (o .target
 unfoldable pub writeCall : List ℕ → Tables → List ℕ → Filed
 unfolding allInRange unitAt writeOf
 writeCall words t target = cond (allInRange (variableWords words)) (filedBy (writeOf (unitAt words) t target)) (filed 14 target)
+
+-- what reading a file leaves: the refusal, the record and every word of H, G and AUX
+unfoldable pub readCall : List ℕ → Tables → Left
+unfolding readOf flatOf
+readCall file t = let r = readOf file t in left (r .refusal) (flatOf (r .unit)) (r .tables)

@@ -1,8 +1,8 @@
-// The unit for C and Rust: five functions over slices and a flat record of 40 words.
+// The unit for C and Rust: six functions over slices and a flat record of 40 words.
 ghost use mathlib.Core.Path.{_≡_};
 ghost use mathlib.Core.List.{_∷_, []};
 ghost use Rattle.record.specs.Tables.{lent};
-ghost use Rattle.bridge.specs.Calls.{left, buildCall, givenCall, lookupCall, recoveredIn, filed, writeCall};
+ghost use Rattle.bridge.specs.Calls.{left, buildCall, givenCall, lookupCall, recoveredIn, filed, writeCall, readCall};
 use flat::WORDS;
 use vectors::MAX_VARIABLES;
 
@@ -110,4 +110,22 @@ pub extern "C" fn igu_write(
     let variables = flat::variables(&all[8..32]);
     let written = file::write(flat::unit(words, variables), h, g, aux, target);
     flat::answer(written.refusal, written.length)
+}
+
+// The refusal; the record and the tables are the unit's that the file holds.
+#[no_mangle]
+pub extern "C" fn igu_read(
+    file: &[u8],
+    h: &mut [u16],
+    g: &mut [u16],
+    aux: &mut [u64],
+    words: &mut [u64; WORDS],
+) -> u64
+    ensures { λ r. ⌜ left r (now (words .exit)) (lent (now (h .exit)) (now (g .exit)) (now (aux .exit)))
+        ≡ readCall (now (file .entry)) (lent (now (h .entry)) (now (g .entry)) (now (aux .entry))) ⌝ }
+{
+    let loaded = load::read(file, h, g, aux);
+    let unit = loaded.unit;
+    *words = flat::words(unit);
+    loaded.refusal as u64
 }

@@ -1,3 +1,4 @@
 pub mod Laying
 pub mod Outcomes
+pub mod Loading
 pub mod Decoding

@@ -17,7 +17,7 @@ use Rattle.record.specs.Formed.{sound}
 use Rattle.record.proofs.Formed.{well-formed-facts, few-words}
 use Rattle.record.proofs.Soundness.{sound-says}
 use Rattle.block.proofs.Laying.Words.{front}
-use Rattle.file.specs.File.{rowsIn, wordsIn, sizeOf, fileWith, fileOf}
+use Rattle.file.specs.File.{rowsIn, wordsIn, sizeOf, longestFile, fileWith, fileOf}
 use Rattle.file.specs.Write.{Outcome, after, refused, filled, writeOf}
 use Rattle.file.proofs.Laying.Files.{Whole, length-whole}
 
@@ -72,6 +72,11 @@ module _ (u : Record) (t : Tables) (h : sound u t ≡ true) where
       let b : ltb (length target) (length (fileOf u t)) ≡ true = lt-ltb (length target) (length (fileOf u t)) (omega (arith, file-length)) in
       sound-write target ∙ rw (filled, b)
 
+  pub write-fits : (target : List ℕ) → sizeOf u ≤ length target → writeOf u t target ≡ after (record { refusal = 0; place = 0; length = length (fileOf u t) }) (over (fileOf u t) target)
+  write-fits target room =
+      let b : ltb (length target) (length (fileOf u t)) ≡ false = le-ltb (length target) (length (fileOf u t)) (omega (arith, file-length)) in
+      sound-write target ∙ rw (filled, b)
+
   pub write-whole : (target l : List ℕ) (rows words size : ℕ) → rows ≡ rowsIn u → words ≡ wordsIn u → size ≡ sizeOf u → size ≤ length target
       → l ≡ sets target 0 (fileWith u (take rows (t .h)) (take (u .cells) (t .g)) (take words (t .aux)))
       → after (record { refusal = 0; place = 0; length = size }) l ≡ writeOf u t target
@@ -79,14 +84,15 @@ module _ (u : Record) (t : Tables) (h : sound u t ≡ true) where
   write-whole target l rows words size er ew es room el =
       let f : List ℕ = fileOf u t in
       let e : l ≡ sets target 0 f = el ∙ ap₂ (λ (i j : ℕ). sets target 0 (fileWith u (take i (t .h)) (take (u .cells) (t .g)) (take j (t .aux)))) er ew in
-      let b : ltb (length target) (length f) ≡ false = le-ltb (length target) (length f) (omega (arith, file-length)) in
       let k : l ≡ over f target = e ∙ front f target (omega (arith, file-length)) in
-      let w : filled f target ≡ after (record { refusal = 0; place = 0; length = length f }) (over f target) = rw (filled, b) in
-      ap₂ (λ (n : ℕ) (x : List ℕ). after (record { refusal = 0; place = 0; length = n }) x) (es ∙ sym file-length) k ∙ sym (sound-write target ∙ w)
+      ap₂ (λ (n : ℕ) (x : List ℕ). after (record { refusal = 0; place = 0; length = n }) x) (es ∙ sym file-length) k ∙ sym (write-fits target (omega arith))
 
 pub write-unsound : (u : Record) (t : Tables) (target : List ℕ) → sound u t ≡ false → writeOf u t target ≡ refused 14 target
 unfolding writeOf
 write-unsound u t target h = ap (λ (b : Bool). elim b [ true ↦ filled (fileOf u t) target | false ↦ refused 14 target ]) h
+
+pub file-longest : (u : Record) (t : Tables) → sound u t ≡ true → sizeOf u ≤ longestFile
+file-longest u t h = let r = ranges u t h in omega (arith, r .rows-few, r .cells-few, r .vectors-few)
 
 -- no file has 64 KiB
 filled-few : (f target : List ℕ) (b : Bool) → ltb (length target) (length f) ≡ b → filled f target .written .length ≤ length f

@@ -90,6 +90,10 @@ blocksIn u = auxFirst u + blocksFor longWords (wordsIn u)
 abbrev pub sizeOf : Record → ℕ
 sizeOf u = blockSize * blocksIn u
 
+-- SCOPE 20.8: the bytes of the longest file, of 68 blocks
+abbrev pub longestFile : ℕ
+longestFile = 34816
+
 -- SCOPE 20.4: the head and the three tables
 unfoldable pub fileWith : Record → List ℕ → List ℕ → List ℕ → List ℕ
 unfolding headOf tableOf

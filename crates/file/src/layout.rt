@@ -1,48 +1,44 @@
 // The layout of a file: the kinds of its blocks, the places of the head's fields, and where the tables lie.
 ghost use mathlib.Core.Path.{_≡_};
-ghost use mathlib.Core.List.{_∷_, []};
 ghost use Prim.Native.Nat.{_≤_};
-ghost use Rattle.vectors.specs.Bounds.{maxSide, maxVectors, maxCells};
-ghost use Rattle.file.specs.File.{variableBytes, blocksFor};
-ghost use Rattle.file.specs.Inner.Plan.{planOf};
+ghost use Rattle.file.specs.File.{blocksFor};
+ghost use Rattle.file.specs.Plan.{planOf};
 use block::WORDS16;
 use block::WORDS64;
-use record::Record;
-use vectors::Kind;
 
 // Byte 0 of a block.
-pub(crate) const HEAD: u8 = 85;
+pub const HEAD: u8 = 85;
 
-pub(crate) const H: u8 = 72;
+pub const H: u8 = 72;
 
-pub(crate) const G: u8 = 71;
+pub const G: u8 = 71;
 
-pub(crate) const AUX: u8 = 65;
+pub const AUX: u8 = 65;
 
 // Byte 1 of a block.
-pub(crate) const VERSION: u8 = 1;
+pub const VERSION: u8 = 1;
 
-pub(crate) const LETTERS: [u8; 4] = *b"IGU1";
+pub const LETTERS: [u8; 4] = *b"IGU1";
 
 // Where each field of the head begins.
-pub(crate) const LETTERS_AT: usize = 4;
+pub const LETTERS_AT: usize = 4;
 
-pub(crate) const N_AT: usize = 8;
+pub const N_AT: usize = 8;
 
-pub(crate) const P_AT: usize = 9;
+pub const P_AT: usize = 9;
 
-pub(crate) const N1_AT: usize = 10;
+pub const N1_AT: usize = 10;
 
-pub(crate) const K_AT: usize = 11;
+pub const K_AT: usize = 11;
 
-pub(crate) const CELLS_AT: usize = 13;
+pub const CELLS_AT: usize = 13;
 
-pub(crate) const TRIES_AT: usize = 15;
+pub const TRIES_AT: usize = 15;
 
-pub(crate) const VARIABLES_AT: usize = 19;
+pub const VARIABLES_AT: usize = 19;
 
 // The number of the first block of H.
-pub(crate) const H_FIRST: usize = 1;
+pub const H_FIRST: usize = 1;
 
 // The blocks of so many words, with per of them in a block.
 pub(crate) fn blocks_for(per: usize, words: usize) -> usize
@@ -53,19 +49,18 @@ pub(crate) fn blocks_for(per: usize, words: usize) -> usize
     (words + (per - 1)) / per
 }
 
-// The numbers of the first blocks of G and AUX, and of the block past the last.
-pub(crate) struct Starts {
+// The numbers of the first blocks of G and AUX, and of the block past the last, with so many words of H, G and AUX.
+pub struct Starts {
     pub g: usize,
     pub aux: usize,
     pub past: usize,
 }
 
-pub(crate) fn plan(unit: Record) -> Starts
-    requires { ⌜ (unit .n1 ≤ maxSide) × (unit .k ≤ maxVectors) × (unit .cells ≤ maxCells) ⌝ }
-    ensures { λ r. ⌜ r ≡ planOf unit ⌝ }
+pub fn plan(rows: u16, cells: u16, words: u16) -> Starts
+    ensures { λ r. ⌜ r ≡ planOf rows cells words ⌝ }
 {
-    let g = H_FIRST + blocks_for(WORDS16, 1usize << unit.n1);
-    let aux = g + blocks_for(WORDS16, unit.cells);
-    let past = aux + blocks_for(WORDS64, unit.k + 1);
+    let g = H_FIRST + blocks_for(WORDS16, rows as usize);
+    let aux = g + blocks_for(WORDS16, cells as usize);
+    let past = aux + blocks_for(WORDS64, words as usize);
     Starts { g, aux, past }
 }

@@ -1,5 +1,5 @@
 // The unit as a file of blocks.
-mod layout;
+pub mod layout;
 mod writing;
 
 pub use writing::write;

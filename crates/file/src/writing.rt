@@ -166,15 +166,15 @@ pub fn write(unit: Record, h: &[u16], g: &[u16], aux: &[u64], target: &mut [u8])
     if !record::sound(unit, h, g, aux) {
         return refused(14);
     }
-    let starts = layout::plan(unit);
+    let rows = 1usize << unit.n1;
+    let cells = unit.cells;
+    let words = unit.k + 1;
+    let starts = layout::plan(rows as u16, cells as u16, words as u16);
     let length = SIZE * starts.past;
     if target.len() < length {
         return refused(20);
     }
-    let rows = 1usize << unit.n1;
-    let cells = unit.cells;
-    let last = unit.k + 1;
-    fill(unit, starts, &h[..rows], &g[..cells], &aux[..last], target);
+    fill(unit, starts, &h[..rows], &g[..cells], &aux[..words], target);
     Written {
         refusal: 0,
         place: 0,

@@ -1,14 +1,14 @@
 -- The variables of a record with their part marks, one more at a time. Assumes nothing.
 use Prim.Native.Nat.{ℕ, suc, _+_, _-_, _≤_, _<_}
 use native.Mathlib.Omega.{arith}
-use mathlib.Core.Path.{_≡_, sym, ap, ap₂, _∙_}
+use mathlib.Core.Path.{_≡_, refl, sym, ap, ap₂, _∙_}
 use mathlib.Core.List.{List, [], _∷_, _++_, map, map-append, append-nil, append-assoc}
 use mathlib.Core.Logic.{⊎-elim}
-use lib.ListN.{length, getD, take, drop, set, replicate, length-append, length-map, length-take, length-drop, drop-of-length-le}
-use lib.Seq.{set-at, append-snoc, take-all, take-nil, drop-nil, take-append-le, drop-append-le}
+use lib.ListN.{length, getD, take, drop, set, replicate, length-append, length-map, length-take, length-drop, take-append-drop, drop-of-length-le}
+use lib.Seq.{take-at, set-at, append-snoc, take-all, take-nil, drop-nil, take-append-le, drop-append-le}
 use borrow.Author.Tests.{lt-ltb, le-ltb}
 use Rattle.lists.proofs.Tests.{le-or-lt}
-use Rattle.lists.proofs.Entries.Members.{take-more}
+use Rattle.lists.proofs.Entries.Members.{take-more, map-take}
 use Rattle.vectors.specs.declared.Kind.{Kind}
 use Rattle.vectors.specs.declared.Part.{Part}
 use Rattle.vectors.specs.declared.Part.the-variants.{Row, Column}
@@ -73,3 +73,20 @@ marking-more n1 vs m i d part h g e f =
     ap₂ (λ (t : List Variable) (q : Part). set t i (with-part q (getD vs i d .kind))) f e
     ∙ ap (λ (j : ℕ). set (variablesOf n1 (kindsOf (take i vs))) j (with-part (partAt j n1) (getD vs i d .kind))) (sym l)
     ∙ marks-more n1 (kindsOf (take i vs)) (getD vs i d .kind) (omega arith) ∙ ap (variablesOf n1) (sym s)
+
+-- ---- the variables without their marks
+
+unmarked : (p : Part) (ks : List Kind) → kindsOf (map (with-part p) ks) ≡ ks
+unmarked p [] = refl
+unmarked p (k ∷ ks) = ap (λ (l : List Kind). k ∷ l) (unmarked p ks)
+
+-- the places in use have the variables as they were
+pub kinds-in : (n1 : ℕ) (ks : List Kind) → kindsOf (take (length ks) (variablesOf n1 ks)) ≡ ks
+kinds-in n1 ks =
+    let rest : List Variable = replicate (maxVariables - length ks) blankVariable in
+    let f : kindsOf (front n1 ks) ≡ ks =
+    map-append (λ (v : Variable). v .kind) (map (with-part Row) (take n1 ks)) (map (with-part Column) (drop n1 ks))
+    ∙ ap₂ (λ (a b : List Kind). a ++ b) (unmarked Row (take n1 ks)) (unmarked Column (drop n1 ks)) ∙ take-append-drop n1 ks in
+    map-take (λ (v : Variable). v .kind) (length ks) (variablesOf n1 ks)
+    ∙ ap (take (length ks)) (map-append (λ (v : Variable). v .kind) (front n1 ks) rest ∙ ap (λ (a : List Kind). a ++ kindsOf rest) f)
+    ∙ take-at ks (kindsOf rest) (length ks) refl

@@ -1,23 +1,27 @@
 -- What is known of a sound unit. Assumes nothing.
-use Prim.Native.Nat.{ℕ, _+_, _^_, _≤_, _<_}
+use Prim.Native.Nat.{ℕ, _+_, _-_, _^_, _≤_, _<_}
 use native.Mathlib.Omega.{arith}
-use mathlib.Core.Path.{_≡_, sym, ap, ap₂, _∙_}
-use mathlib.Core.Bool.{true, false}
+use mathlib.Core.Path.{_≡_, refl, sym, ap, ap₂, _∙_}
+use mathlib.Core.Bool.{Bool, true, false, _&&_}
 use lib.Count.{ones}
 use lib.Dec.{eqb}
 use lib.ListN.{length}
-use Rattle.lists.proofs.Tests.{and-true}
-use borrow.Author.Tests.{ne-eqb}
+use borrow.Author.Tests.{eqb-true, eq-eqb, ne-eqb, lt-ltb}
+use Rattle.lists.proofs.Tests.{and-true, and-unit}
+use Rattle.lists.proofs.Finding.NonePass.{none-all}
+use Rattle.vectors.specs.Bounds.{maxInputs}
+use Rattle.vectors.specs.Variable.{faulty, firstFaulty}
 use Rattle.span.specs.Within.{inputsIn, kindsWithin}
 use Rattle.span.specs.Span.{firstDependent, kept, soundOf}
+use Rattle.span.proofs.Spans.{kept-lt}
 use Rattle.span.proofs.Fixed.{sound-facts}
 use Rattle.span.proofs.Labels.Edges.{inputs-same, kinds-same, all-edges}
 use Rattle.span.proofs.Count.{kept-number}
 use Rattle.record.specs.declared.Record.{Record}
 use Rattle.record.specs.Record.{kindsIn}
 use Rattle.record.specs.Tables.{Tables}
-use Rattle.record.specs.Formed.{wellFormed, sound}
-use Rattle.record.proofs.Formed.{well-formed-facts}
+use Rattle.record.specs.Formed.{inBounds, rightInputs, longEnough, wellFormed, rightRecord, sound}
+use Rattle.record.proofs.Formed.{in-bounds, well-formed-facts}
 
 pub record Sound (u : Record) (t : Tables) : Type 0 where
   pub well-formed : wellFormed u t ≡ true
@@ -52,23 +56,74 @@ sound-says u t h =
 
 -- ---- tested one after the other
 
-pub sound-unformed : (u : Record) (t : Tables) → wellFormed u t ≡ false → sound u t ≡ false
-unfolding sound
-sound-unformed u t h = rw h
+module _ (u : Record) where
+  pub right-unbound : inBounds u ≡ false → rightRecord u ≡ false
+  unfolding rightRecord
+  right-unbound h = rw h
 
-module _ (u : Record) (t : Tables) (w : wellFormed u t ≡ true) where
-  -- the variables of a well-formed unit count as they are
-  same : kindsWithin (u .n) (u .p) (u .variables) ≡ kindsIn u
-  same = let f = well-formed-facts u t w in kinds-same (u .n) (u .p) (u .variables) (f .bounds .inputs) (f .inputs .right)
+  module _ (b : inBounds u ≡ true) where
+    pub right-faulty : (d : ℕ) → d ≡ firstFaulty (u .n) (kindsIn u) → (d ≡ 0 → ⊥) → rightRecord u ≡ false
+    unfolding rightRecord
+    right-faulty d e ne = rw (b, ← e, ne-eqb d 0 ne)
 
-  pub sound-tied : (d : ℕ) → d ≡ firstDependent (kindsWithin (u .n) (u .p) (u .variables)) → (d ≡ 0 → ⊥) → sound u t ≡ false
-  unfolding sound soundOf
-  sound-tied d e ne = let f : firstDependent (kindsIn u) ≡ d = ap firstDependent (sym same) ∙ sym e in rw (w, f, ne-eqb d 0 ne)
+    pub right-free : (d f : ℕ) → d ≡ firstFaulty (u .n) (kindsIn u) → d ≡ 0 → f ≡ firstDependent (kindsWithin (u .n) (u .p) (u .variables)) → eqb f 0 ≡ rightRecord u
+    unfolding rightRecord
+    right-free d f e z q =
+        let k : kindsWithin (u .n) (u .p) (u .variables) ≡ kindsIn u =
+        kinds-same (u .n) (u .p) (u .variables) (in-bounds u b .inputs) (none-all (faulty (u .n)) (kindsIn u) (sym e ∙ z)) in
+        let p : firstDependent (kindsIn u) ≡ f = ap firstDependent (sym k) ∙ sym q in
+        rw (b, ← e, z, p)
 
-  pub sound-free : (d m : ℕ) → d ≡ firstDependent (kindsWithin (u .n) (u .p) (u .variables)) → d ≡ 0
-      → m ≡ kept (inputsIn (u .n)) (kindsWithin (u .n) (u .p) (u .variables)) → eqb (u .kept) m ≡ sound u t
-  unfolding sound soundOf
-  sound-free d m e z q =
-      let f : firstDependent (kindsIn u) ≡ 0 = ap firstDependent (sym same) ∙ sym e ∙ z in
-      let k : m ≡ kept (u .n) (kindsIn u) = q ∙ ap₂ kept (inputs-same (u .n) (well-formed-facts u t w .bounds .inputs)) same in
-      rw (w, f, k)
+-- what a right record says
+pub record Right (u : Record) : Type 0 where
+  pub in-bounds : inBounds u ≡ true
+  pub not-faulty : firstFaulty (u .n) (kindsIn u) ≡ 0
+  pub independent : firstDependent (kindsIn u) ≡ 0
+
+pub right-says : (u : Record) → rightRecord u ≡ true → Right u
+unfolding rightRecord
+right-says u h =
+    let a = and-true _ _ h in
+    let b = and-true _ _ (a .0) in
+    record { in-bounds = b .0; not-faulty = eqb-true _ _ (b .1); independent = eqb-true _ _ (a .1) }
+
+-- the kept inputs of the rule, as they are worked out
+pub kept-same : (u : Record) → Right u → kept (inputsIn (u .n)) (kindsWithin (u .n) (u .p) (u .variables)) ≡ kept (u .n) (kindsIn u)
+kept-same u r =
+    let n : u .n ≤ maxInputs = in-bounds u (r .in-bounds) .inputs in
+    ap₂ kept (inputs-same (u .n) n) (kinds-same (u .n) (u .p) (u .variables) n (none-all (faulty (u .n)) (kindsIn u) (r .not-faulty)))
+
+module _ (u : Record) (t : Tables) where
+  pub sound-right : sound u t ≡ true → rightRecord u ≡ true
+  unfolding sound wellFormed soundOf rightRecord
+  sound-right h =
+      let a = and-true (wellFormed u t) (soundOf (u .n) (kindsIn u) (u .kept)) h in
+      let b = and-true (inBounds u) (rightInputs u) (and-true (inBounds u && rightInputs u) (longEnough u t) (a .0) .0) in
+      let f : eqb (firstFaulty (u .n) (kindsIn u)) 0 ≡ true = and-true _ _ (and-true _ _ (b .1) .0) .0 in
+      let d : eqb (firstDependent (kindsIn u)) 0 ≡ true = and-true _ _ (a .1) .0 in
+      rw (b .0, f, d)
+
+  -- a right record with the kept inputs of the rule is sound where the tables are long enough; the places in use are p
+  pub right-sound : rightRecord u ≡ true → length (kindsIn u) ≡ u .p → u .kept ≡ kept (u .n) (kindsIn u) → longEnough u t ≡ sound u t
+  unfolding sound wellFormed soundOf
+  right-sound h l k =
+      let r : Right u = right-says u h in
+      let c : ones (kept (u .n) (kindsIn u)) + length (kindsIn u) ≡ u .n =
+      kept-number (u .n) (kindsIn u) (all-edges (u .n) (kindsIn u) (none-all (faulty (u .n)) (kindsIn u) (r .not-faulty))) (r .independent) in
+      let o : ones (u .kept) ≡ u .n - u .p = omega (arith, ap ones k) in
+      let w : u .kept < 2 ^ u .n = rw k (kept-lt (u .n) (kindsIn u)) in
+      rw (r .in-bounds, eq-eqb _ _ (r .not-faulty), eq-eqb _ _ o, lt-ltb _ _ w, eq-eqb _ _ (r .independent), eq-eqb _ _ k) (sym (and-unit (longEnough u t)))
+
+  pub unright-sound : rightRecord u ≡ false → sound u t ≡ false
+  unright-sound h = go (sound u t) refl
+    where
+      go : (b : Bool) → sound u t ≡ b → b ≡ false
+      go true e = sym (sound-right e) ∙ h
+      go false e = refl
+
+  pub other-kept : rightRecord u ≡ true → (m : ℕ) → m ≡ kept (inputsIn (u .n)) (kindsWithin (u .n) (u .p) (u .variables)) → (u .kept ≡ m → ⊥) → sound u t ≡ false
+  other-kept h m e ne = go (sound u t) refl
+    where
+      go : (b : Bool) → sound u t ≡ b → b ≡ false
+      go true s = absurd (ne (sound-says u t s .kept-is ∙ sym (e ∙ kept-same u (right-says u h))))
+      go false s = refl

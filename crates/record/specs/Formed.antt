@@ -7,7 +7,7 @@ use lib.ListN.{length}
 use Rattle.lists.specs.First.{firstOf}
 use Rattle.vectors.specs.Bounds.{maxInputs, maxVectors, maxCells, outside, tooMany}
 use Rattle.vectors.specs.Variable.{firstFaulty}
-use Rattle.span.specs.Span.{soundOf}
+use Rattle.span.specs.Span.{firstDependent, soundOf}
 use Rattle.record.specs.declared.Record.{Record}
 use Rattle.record.specs.Record.{kindsIn}
 use Rattle.record.specs.Tables.{Tables}
@@ -39,6 +39,11 @@ wellFormed u t = inBounds u && rightInputs u && longEnough u t
 unfoldable pub framedBy : Record → Tables → Bool
 unfolding ones
 framedBy u t = inBounds u && rightKept u && longEnough u t
+
+-- SCOPE 13.2, but for the kept inputs and the tables: the numbers are in bounds, and no variable is faulty or an XOR of earlier ones
+unfoldable pub rightRecord : Record → Bool
+unfolding firstOf firstDependent
+rightRecord u = inBounds u && eqb (firstFaulty (u .n) (kindsIn u)) 0 && eqb (firstDependent (kindsIn u)) 0
 
 -- SCOPE 13.2: well formed, the variables independent, and the kept inputs those of the rule
 unfoldable pub sound : Record → Tables → Bool

@@ -6,7 +6,7 @@ ghost use Rattle.vectors.specs.Bounds.{maxInputs};
 ghost use Rattle.vectors.specs.Variable.{kindsOf};
 ghost use Rattle.record.specs.Tables.{lent, indexIn};
 ghost use Rattle.record.specs.Record.{blankRecord, variablesOf, log2Up, excessOf};
-ghost use Rattle.record.specs.Formed.{inBounds, rightKept, longEnough, framedBy, wellFormed, sound as Formed·sound};
+ghost use Rattle.record.specs.Formed.{inBounds, rightKept, longEnough, framedBy, wellFormed, rightRecord, sound as Formed·sound};
 ghost use Rattle.record.specs.Inner.Formed.{InBounds};
 ghost use Rattle.record.specs.Inner.Parts.{partAt};
 use vectors::MAX_CELLS;
@@ -84,11 +84,13 @@ fn right_kept(unit: Record) -> bool
     !vectors::beyond(unit.n, unit.kept)
 }
 
-// Whether the tables have the rows, the cells and the vectors.
-fn long_enough(unit: Record, h: &[u16], g: &[u16], aux: &[u64]) -> bool
-    requires { ⌜ InBounds unit ⌝ }
+// Whether the tables have the rows, the cells and the vectors. No slice has 2^64 words.
+pub fn long_enough(unit: Record, h: &[u16], g: &[u16], aux: &[u64]) -> bool
     ensures { λ r. ⌜ r ≡ longEnough unit (lent (now (h .entry)) (now (g .entry)) (now (aux .entry))) ⌝ }
 {
+    if MAX_INPUTS <= unit.n1 {
+        return false;
+    }
     if h.len() < 1usize << unit.n1 {
         return false;
     }
@@ -121,18 +123,32 @@ pub fn well_formed(unit: Record, h: &[u16], g: &[u16], aux: &[u64]) -> bool
     vectors::first_faulty(unit.n as u8, variables, unit.p) == 0
 }
 
-// Whether a unit is well formed, its variables are independent, and its kept inputs those of the rule.
-pub fn sound(unit: Record, h: &[u16], g: &[u16], aux: &[u64]) -> bool
-    ensures { λ r. ⌜ r ≡ Formed·sound unit (lent (now (h .entry)) (now (g .entry)) (now (aux .entry))) ⌝ }
+// Whether a record's numbers are in bounds, and no variable is faulty or an XOR of earlier ones.
+pub fn right(unit: Record) -> bool
+    ensures { λ r. ⌜ r ≡ rightRecord unit ⌝ }
 {
-    if !well_formed(unit, h, g, aux) {
+    if !in_bounds(unit) {
         return false;
     }
     let variables = unit.variables;
-    if span::first_dependent(unit.n, variables, unit.p) != 0 {
+    if vectors::first_faulty(unit.n as u8, variables, unit.p) != 0 {
         return false;
     }
-    unit.kept == span::kept_inputs(unit.n, variables, unit.p)
+    span::first_dependent(unit.n, variables, unit.p) == 0
+}
+
+// Whether a unit is well formed, its variables are independent, and its kept inputs those of the rule. Those of the rule are n - p, within n.
+pub fn sound(unit: Record, h: &[u16], g: &[u16], aux: &[u64]) -> bool
+    ensures { λ r. ⌜ r ≡ Formed·sound unit (lent (now (h .entry)) (now (g .entry)) (now (aux .entry))) ⌝ }
+{
+    if !right(unit) {
+        return false;
+    }
+    let variables = unit.variables;
+    if unit.kept != span::kept_inputs(unit.n, variables, unit.p) {
+        return false;
+    }
+    long_enough(unit, h, g, aux)
 }
 
 // The part mark of place i.

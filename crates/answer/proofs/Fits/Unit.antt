@@ -1,11 +1,11 @@
 -- The text of an accepted unit is no longer than the page. Assumes nothing.
-use Prim.Native.Nat.{ℕ, suc, _+_, _-_, _*_, _^_, _≤_, _<_}
+use Prim.Native.Nat.{ℕ, suc, _-_, _^_, _≤_, _<_}
 use native.Mathlib.Omega.{arith}
 use native.Mathlib.Nat.{lt-of-lt-of-le}
 use mathlib.Core.Path.{_≡_, ap}
 use mathlib.Core.List.{List, [], _∷_, map}
 use lib.IntN.{ℤ}
-use lib.ListN.{length, take, drop, length-map, length-replicate}
+use lib.ListN.{length, drop, length-map, length-replicate}
 use lib.Pow.{pow-mono}
 use lib.Seq.{take-at}
 use Rattle.lists.specs.Members.{All}
@@ -22,12 +22,12 @@ use Rattle.rows.specs.Place.{Placing}
 use Rattle.record.specs.Record.{recordOf, excessOf}
 use Rattle.record.specs.Tables.{Tables}
 use Rattle.record.proofs.Excesses.{excess-fits}
+use Rattle.record.proofs.Marks.{kinds-in}
 use Rattle.build.specs.declared.Refusal.{Refusal}
 use Rattle.build.specs.Build.{caresFrom, placingOf, auxOf}
 use Rattle.build.proofs.Writing.Written.{kept-room}
 use Rattle.build.proofs.Holding.Passed.{Passed}
 use Rattle.build.proofs.Holding.Ends.{placing-rows, placing-cells, acceptedOutcome}
-use Rattle.build.proofs.Holding.Built.{kinds-in}
 use Rattle.print.specs.Print.{pageOf, textOf}
 use Rattle.print.proofs.Pages.Sizes.{page-low}
 use Rattle.print.proofs.Pages.Formed.{masks-low}

@@ -12,7 +12,7 @@ use lib.Dec.{eqb}
 use borrow.Author.Tests.{eqb-true, eqb-false}
 use Rattle.lists.specs.Members.{All}
 use Rattle.lists.proofs.Entries.Members.{take-more}
-use Rattle.lists.proofs.Entries.Alls.{all-at}
+use Rattle.lists.proofs.Entries.Alls.{all-at, at-all}
 use Rattle.block.specs.Block.{sumOf, weigh}
 use Rattle.block.specs.Inner.Columns.{lanes, halfSize, Columns, Added}
 use Rattle.block.proofs.Check.Sums.{sum-end, weigh-end, weigh-add, sum-append, weigh-append, sum-set, weigh-set, sum-low, weigh-low, Running, running-none, running-more, running-end}
@@ -93,11 +93,6 @@ module _ (bytes : List ℕ) (row : ℕ) (sums runs a r : List ℕ) (j x : ℕ) (
 pub row-byte : (block : List ℕ) (at j : ℕ) → j < lanes → getD block (at + j) 0 ≡ getD (take lanes (drop at block)) j 0
 row-byte block at j h = sym (getD-take lanes (drop at block) j 0 h ∙ getD-drop at block j 0)
 
--- entries that are low one by one
-all-low : (m : ℕ) (l : List ℕ) → ((i : ℕ) → i < length l → getD l i 0 ≤ m) → All (λ x. x ≤ m) l
-all-low m [] f = tt
-all-low m (x ∷ l) f = (f 0 (omega arith), all-low m l (λ i h. f (suc i) (omega arith)))
-
 pub adding-end : (bytes : List ℕ) (row : ℕ) (sums runs a r : List ℕ) (j : ℕ) → length bytes ≡ lanes → lanes ≤ j → Adding bytes row sums runs a r j → Added bytes row sums runs a r
 adding-end bytes row sums runs a r j n h y =
     let e : j ≡ lanes = omega (arith, y .within) in
@@ -107,8 +102,8 @@ adding-end bytes row sums runs a r j n h y =
       columns = record {
         sums-long = y .a-long;
         runs-long = y .r-long;
-        sums-low = all-low (255 * suc row) a (λ i l. y .a-done i (omega (arith, y .a-long)));
-        runs-low = all-low (4080 * suc row) r (λ i l. y .r-done i (omega (arith, y .r-long)));
+        sums-low = at-all (λ (x : ℕ). x ≤ 255 * suc row) a 0 (λ i l. y .a-done i (omega (arith, y .a-long)));
+        runs-low = at-all (λ (x : ℕ). x ≤ 4080 * suc row) r 0 (λ i l. y .r-done i (omega (arith, y .r-long)));
       };
       plain = rw b at (y .plain);
       weighed = rw b at (y .weighed);
@@ -161,7 +156,7 @@ pub rows-none : (l : List ℕ) → Rows l (replicate lanes 0) (replicate lanes 0
 unfolding sumOf weigh
 rows-none l = record {
   within = omega arith;
-  columns = record { sums-long = refl; runs-long = refl; sums-low = all-low 0 (replicate lanes 0) (λ i h. rw (getD-replicate {A = ℕ} lanes i 0 0 h) (omega arith)); runs-low = all-low 0 (replicate lanes 0) (λ i h. rw (getD-replicate {A = ℕ} lanes i 0 0 h) (omega arith)) };
+  columns = record { sums-long = refl; runs-long = refl; sums-low = at-all (λ (x : ℕ). x ≤ 0) (replicate lanes 0) 0 (λ i h. rw (getD-replicate {A = ℕ} lanes i 0 0 h) (omega arith)); runs-low = at-all (λ (x : ℕ). x ≤ 0) (replicate lanes 0) 0 (λ i h. rw (getD-replicate {A = ℕ} lanes i 0 0 h) (omega arith)) };
   plain = refl;
   weighed = refl;
   run-most = omega arith;

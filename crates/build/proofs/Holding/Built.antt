@@ -4,20 +4,16 @@ use native.Mathlib.Nat.{add-comm}
 use native.Mathlib.Omega.{arith}
 use mathlib.Core.Path.{_≡_, refl, sym, ap, ap₂, _∙_}
 use mathlib.Core.Bool.{true}
-use mathlib.Core.List.{List, [], _∷_, _++_, map, map-append}
+use mathlib.Core.List.{List, map}
 use lib.Count.{ones}
-use lib.ListN.{length, getD, take, drop, replicate, length-replicate, length-append, length-map, take-append-drop, List·getD-append}
-use lib.Seq.{take-at}
+use lib.ListN.{length, getD, drop, replicate, length-replicate, length-append, length-map, List·getD-append}
 use borrow.Author.Tests.{eq-eqb, lt-ltb, le-ltb, le-leb}
-use Rattle.lists.proofs.Entries.Members.{getD-map, map-take}
+use Rattle.lists.proofs.Entries.Members.{getD-map}
 use Rattle.lists.proofs.Entries.Alls.{all-at}
 use Rattle.lists.proofs.Finding.Repeats.{repeated-zero}
 use Rattle.lists.proofs.Finding.NonePass.{all-none}
 use Rattle.vectors.specs.declared.Kind.{Kind}
-use Rattle.vectors.specs.declared.Part.{Part}
-use Rattle.vectors.specs.declared.Part.the-variants.{Row, Column}
-use Rattle.vectors.specs.declared.Variable.{Variable}
-use Rattle.vectors.specs.Variable.{faulty, numberOf, rowOf, columnOf, kindsOf, blankVariable}
+use Rattle.vectors.specs.Variable.{faulty, numberOf, rowOf, columnOf}
 use Rattle.span.specs.Span.{kept, soundOf}
 use Rattle.vectors.specs.Word.{wordOf}
 use Rattle.vectors.proofs.Variables.Numbers.{number-split, row-lt}
@@ -25,40 +21,20 @@ use Rattle.span.proofs.Spans.{kept-lt}
 use Rattle.rows.specs.Care.{Care}
 use Rattle.record.specs.declared.Record.{Record}
 use Rattle.vectors.specs.Bounds.{maxInputs, maxVectors, maxCells, maxVariables, maxSide}
-use Rattle.record.specs.Record.{variablesOf, recordOf}
+use Rattle.record.specs.Record.{recordOf}
 use Rattle.build.specs.declared.Refusal.{Refusal}
 use Rattle.record.specs.Tables.{Tables, over}
 use Rattle.build.specs.Build.{caresFrom, placingOf, auxOf, written}
 use Rattle.record.specs.Leads.{wordIn, cellIn}
 use Rattle.record.specs.Formed.{wellFormed, sound}
 use Rattle.record.specs.Holds.{Leads, Holds}
+use Rattle.record.proofs.Marks.{kinds-in}
 use Rattle.build.proofs.Holding.Passed.{Passed, split-kept}
 use Rattle.build.proofs.Holding.Ends.{placing-rows, placing-cells}
 use Rattle.build.proofs.Holding.Cares.{careOf, cares-in, cares-entry, cares-distinct}
 use Rattle.rows.specs.declared.End.the-variants.{All}
 use Rattle.rows.proofs.Fits.Filled.{filled-blank}
 use Rattle.rows.proofs.Placing.Held.{Lies, held-only, all-held}
-
--- ---- the record
-
-abbrev marked : Part → List Kind → List Variable
-marked p ks = map (λ k. record { kind = k; part = p }) ks
-
--- marks leave the kinds
-unmarked : (p : Part) (ks : List Kind) → kindsOf (marked p ks) ≡ ks
-unmarked p [] = refl
-unmarked p (k ∷ ks) = ap (λ (l : List Kind). k ∷ l) (unmarked p ks)
-
--- the variables of the record are those of the build
-pub kinds-in : (n1 : ℕ) (ks : List Kind) → kindsOf (take (length ks) (variablesOf n1 ks)) ≡ ks
-kinds-in n1 ks =
-    let rest : List Variable = replicate (maxVariables - length ks) blankVariable in
-    let f : kindsOf (marked Row (take n1 ks) ++ marked Column (drop n1 ks)) ≡ ks =
-    map-append (λ (v : Variable). v .kind) (marked Row (take n1 ks)) (marked Column (drop n1 ks))
-    ∙ ap₂ (λ (a b : List Kind). a ++ b) (unmarked Row (take n1 ks)) (unmarked Column (drop n1 ks)) ∙ take-append-drop n1 ks in
-    map-take (λ (v : Variable). v .kind) (length ks) (variablesOf n1 ks)
-    ∙ ap (take (length ks)) (map-append (λ (v : Variable). v .kind) (marked Row (take n1 ks) ++ marked Column (drop n1 ks)) rest ∙ ap (λ (a : List Kind). a ++ kindsOf rest) f)
-    ∙ take-at ks (kindsOf rest) (length ks) refl
 
 -- ---- words over old ones
 

@@ -9,7 +9,7 @@ use Rattle.record.specs.Record.{recordOf, kindsIn}
 use Rattle.record.specs.Tables.{Tables}
 use Rattle.record.specs.Formed.{sound}
 use Rattle.record.proofs.Soundness.{Sound, sound-says}
-use Rattle.build.proofs.Holding.Built.{kinds-in}
+use Rattle.record.proofs.Marks.{kinds-in}
 use Rattle.block.specs.Bytes.{littleOf}
 use Rattle.block.specs.Block.{openingOf}
 use Rattle.block.proofs.Reading.Words.{low-whole}

@@ -15,7 +15,7 @@ use Rattle.file.specs.File.{opening, blocksFor, stack, tableBlock, table
 use Rattle.file.specs.Decode.{tableFrom, tableIn}
 
 -- the blocks hold the words
-blocks-hold : (per words : ℕ) → 1 ≤ per → words ≤ per * blocksFor per words
+pub blocks-hold : (per words : ℕ) → 1 ≤ per → words ≤ per * blocksFor per words
 blocks-hold per words h = omega (arith, div-add-mod (words + (per - 1)) per, mod-lt (words + (per - 1)) h)
 
 pub stack-same : (f g : ℕ → List ℕ) → ((i : ℕ) → f i ≡ g i) → (m : ℕ) → stack f m ≡ stack g m
@@ -31,7 +31,7 @@ stack-front f (suc m) = ap (λ (l : List ℕ). l ++ f (suc m)) (stack-front f m)
 
 module _ (kind size per : ℕ) where
   -- the blocks behind the first are those of the words behind the first block's
-  table-front : (first : ℕ) (words : List ℕ) (m : ℕ)
+  pub table-front : (first : ℕ) (words : List ℕ) (m : ℕ)
       → stack (tableBlock kind size per first words) (suc m)
       ≡ blockOf (opening kind first) (wordsOf size (take per words)) ++ stack (tableBlock kind size per (suc first) (drop per words)) m
   unfolding tableBlock

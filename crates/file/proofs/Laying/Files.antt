@@ -20,13 +20,16 @@ unfolding tableOf
 length-table kind size per first words fit =
     length-stack (tableBlock kind size per first words) (length-table-block kind size per first words fit) (blocksFor per (length words))
 
+-- the fields and the variables
+pub length-payload : (u : Record) → length (kindsIn u) ≤ maxVariables → length (headPayload u) ≡ length (fieldsOf u) + 2 * maxVariables
+length-payload u few =
+    let v : List ℕ = variablesBytes (kindsIn u) in
+    ap length (fields-are u) ∙ length-append (fieldsOf u) (padded (2 * maxVariables) v)
+    ∙ ap (λ (i : ℕ). length (fieldsOf u) + i) (length-padded (2 * maxVariables) v (omega (arith, length-variables (kindsIn u))))
+
 pub length-head : (u : Record) → length (kindsIn u) ≤ maxVariables → length (headOf u) ≡ blockSize
 unfolding headOf
-length-head u few =
-    let v : List ℕ = variablesBytes (kindsIn u) in
-    let n : length (headPayload u) ≡ length (fieldsOf u) + 2 * maxVariables =
-    ap length (fields-are u) ∙ length-append (fieldsOf u) (padded (2 * maxVariables) v) ∙ ap (λ (i : ℕ). length (fieldsOf u) + i) (length-padded (2 * maxVariables) v (omega (arith, length-variables (kindsIn u)))) in
-    length-block (opening headKind 0) (headPayload u) (omega arith)
+length-head u few = length-block (opening headKind 0) (headPayload u) (omega (arith, length-payload u few))
 
 -- the tables as long as the unit has them
 pub record Whole (u : Record) (h g aux : List ℕ) : Type 0 where

@@ -100,9 +100,9 @@ padded-twice size m a b h k =
     ∙ ap (λ (i : ℕ). a ++ b ++ replicate i 0) c
 
 -- so the variables need no zeros of their own
-whole : (u : Record) (o : List ℕ) → length o ≡ payloadAt → length (kindsIn u) ≤ maxVariables
+pub head-padded : (u : Record) (o : List ℕ) → length o ≡ payloadAt → length (kindsIn u) ≤ maxVariables
     → padded checkAt (o ++ (fieldsOf u ++ variablesBytes (kindsIn u))) ≡ padded checkAt (o ++ headPayload u)
-whole u o e few =
+head-padded u o e few =
     let v : List ℕ = variablesBytes (kindsIn u) in
     let n : length v ≡ 2 * length (kindsIn u) = length-variables (kindsIn u) in
     ap (padded checkAt) (sym (append-assoc o (fieldsOf u) v))
@@ -118,4 +118,4 @@ head-is u base b r few e eb q =
     let n : length v ≡ 2 * length (kindsIn u) = length-variables (kindsIn u) in
     let s : b ≡ sets (o ++ replicate checkAt 0) payloadAt (fieldsOf u ++ v) = eb ∙ sym (sets-append (fieldsOf u) v base lettersAt) ∙ ap (λ (l : List ℕ). sets l payloadAt (fieldsOf u ++ v)) e in
     let t : take checkAt b ≡ padded checkAt (o ++ (fieldsOf u ++ v)) = ap (take checkAt) s ∙ laid o (fieldsOf u ++ v) (length-opening (opening headKind 0)) (omega (arith, length-append (fieldsOf u) v)) in
-    q ∙ ap sealed (t ∙ whole u o (length-opening (opening headKind 0)) few)
+    q ∙ ap sealed (t ∙ head-padded u o (length-opening (opening headKind 0)) few)

@@ -22,9 +22,6 @@ returns-2 : tie.Need-returns-2
 unfolding framedBy
 returns-2 c = rw (bounds (c .before .before), sym (c .before .right-kept .ensures) ∙ not-true _ (c .if2 .taken))
 
-long-enough-requires : tie.Need-long-enough-requires
-long-enough-requires c κs = let e = c .before .before in in-bounds (e .before .before .before .before .before .args .unit) (bounds e)
-
 returns-3 : tie.Need-returns-3
 unfolding framedBy
 returns-3 c =
@@ -39,5 +36,5 @@ framed-spec =
     returns
     right-kept-requires
     returns-2
-    long-enough-requires
+    (λ c κs. search needs)
     returns-3)
