@@ -7,8 +7,8 @@
  * Memory. Every pointer is aligned and not null, also with length 0, and is good for as many elements as its length says (or 40, 24 or
  * 1, as the declaration says). Memory that a call writes overlaps no other memory of that call.
  *
- * Stack. A call needs at most this much of it: igu_build 80 KB, igu_build_given 20 KB, igu_write 3 KB, igu_recover and igu_lookup
- * 2 KB. With less it can end the process, as igu_build does on a stack of 64 KB. docs/FIGURES.md has what was measured.
+ * Stack. A call needs at most this much of it: igu_build 80 KB, igu_build_given 20 KB, igu_write 3 KB, igu_read, igu_recover and
+ * igu_lookup 2 KB. With less it can end the process, as igu_build does on a stack of 64 KB. docs/FIGURES.md has what was measured.
  *
  * Threads. The functions keep nothing between calls. Calls may run in several threads at once, as long as no call writes memory that
  * another one is using: each build has a record and tables of its own; the other calls may share those of a build that has ended, each
