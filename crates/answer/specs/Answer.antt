@@ -3,16 +3,10 @@ use Prim.Native.Nat.{ℕ}
 use mathlib.Core.Bool.{true, false}
 use mathlib.Core.List.{List}
 use lib.Dec.{eqb}
-use lib.ListN.{drop, replicate}
-use Rattle.record.specs.Tables.{Tables, lent}
-use Rattle.build.specs.Build.{Outcome, buildChosen}
+use Rattle.build.specs.Build.{Outcome}
 use Rattle.print.specs.Ascii.{ascii}
-use Rattle.input.specs.Input.{maxListed, goodText, numbersIn, inputOf}
 use Rattle.print.specs.Print.{textOf, refusedText}
-
--- tables as long as any unit needs, so that refusals 5 and 12 never come
-abbrev pub roomy : Tables
-roomy = lent (replicate 4096 0) (replicate 8192 0) (replicate 1025 0)
+use Rattle.answer.specs.Make.{Making, roomy, makeOf}
 
 -- bytes that every answer fits into
 abbrev pub pageSize : ℕ
@@ -31,11 +25,12 @@ builtText o =
       | false ↦ refusedText (o .built .refusal) (o .built .place)
     ]
 
+-- what is written for what a text left
+unfoldable pub madeText : Making → List ℕ
+unfolding builtText
+madeText m = elim (m .good) [ true ↦ builtText (m .outcome) | false ↦ inputText ]
+
 -- what the program writes for a text
 unfoldable pub answerOf : List ℕ → List ℕ
-unfolding goodText builtText buildChosen inputOf numbersIn
-answerOf text =
-    elim (goodText text maxListed) [
-      | true ↦ let i = inputOf text maxListed in builtText (buildChosen (i .n) (i .degree) (i .cells) (drop 3 (numbersIn text)) roomy)
-      | false ↦ inputText
-    ]
+unfolding madeText makeOf
+answerOf text = madeText (makeOf text roomy)

@@ -1,3 +1,4 @@
+pub mod Make
 pub mod Answer
 pub mod AnswerSamples
 pub mod Inner

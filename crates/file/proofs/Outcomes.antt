@@ -63,7 +63,7 @@ module _ (u : Record) (t : Tables) (h : sound u t ≡ true) where
   file-length = length-whole u _ _ _ whole
 
   -- past 14
-  sound-write : (target : List ℕ) → writeOf u t target ≡ filled (fileOf u t) target
+  pub sound-write : (target : List ℕ) → writeOf u t target ≡ filled (fileOf u t) target
   unfolding writeOf
   sound-write target = ap (λ (b : Bool). elim b [ true ↦ filled (fileOf u t) target | false ↦ refused 14 target ]) h
 
@@ -95,6 +95,9 @@ pub file-longest : (u : Record) (t : Tables) → sound u t ≡ true → sizeOf u
 file-longest u t h = let r = ranges u t h in omega (arith, r .rows-few, r .cells-few, r .vectors-few)
 
 -- no file has 64 KiB
+pub file-few : (u : Record) (t : Tables) → sound u t ≡ true → length (fileOf u t) < 65536
+file-few u t h = let r = ranges u t h in omega (arith, file-length u t h, r .rows-few, r .cells-few, r .vectors-few)
+
 filled-few : (f target : List ℕ) (b : Bool) → ltb (length target) (length f) ≡ b → filled f target .written .length ≤ length f
 filled-few f target true e = rw (filled, e) (omega arith)
 filled-few f target false e = rw (filled, e) (omega arith)
@@ -104,7 +107,6 @@ written-few u t target = go (sound u t) refl
   where
     go : (b : Bool) → sound u t ≡ b → writeOf u t target .written .length < 65536
     go true h =
-        let r = ranges u t h in
         let e : writeOf u t target .written .length ≡ filled (fileOf u t) target .written .length = ap (λ (o : Outcome). o .written .length) (sound-write u t h target) in
-        omega (arith, filled-few (fileOf u t) target _ refl, file-length u t h, r .rows-few, r .cells-few, r .vectors-few)
+        omega (arith, filled-few (fileOf u t) target _ refl, file-few u t h)
     go false h = let e : writeOf u t target .written .length ≡ 0 = ap (λ (o : Outcome). o .written .length) (write-unsound u t target h) in omega arith

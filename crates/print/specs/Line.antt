@@ -19,3 +19,9 @@ fields (x ∷ xs) = space ∷ (decimal x ++ fields xs)
 unfoldable pub line : List ℕ → List ℕ → List ℕ
 unfolding fields
 line name xs = name ++ fields xs ++ (newline ∷ [])
+
+-- numbers, a line each
+unfoldable pub lines : List ℕ → List ℕ
+unfolding decimal
+lines [] = []
+lines (x ∷ xs) = (decimal x ++ (newline ∷ [])) ++ lines xs

@@ -12,7 +12,7 @@ use Rattle.record.specs.Tables.{Tables}
 use Rattle.record.specs.Formed.{wellFormed}
 use Rattle.print.specs.Ascii.{ascii}
 use Rattle.print.specs.Decimal.{signed}
-use Rattle.print.specs.Line.{space, newline, fields, line}
+use Rattle.print.specs.Line.{space, newline, fields, line, lines}
 
 -- the names that the lines open with: the six of a unit, and that of a refusal
 abbrev pub unitName : List ℕ
@@ -83,3 +83,12 @@ fitted text out = elim (leb (length text) (length out)) [ true ↦ printed (leng
 unfoldable pub printOf : Record → Tables → List ℕ → Printed
 unfolding wellFormed textOf fitted
 printOf u t out = elim (wellFormed u t) [ true ↦ fitted (textOf u t) out | false ↦ printed 0 out ]
+
+-- more numbers than anything printed has
+abbrev pub maxFields : ℕ
+maxFields = 8192
+
+-- numbers, a line each; nothing where they are too many
+unfoldable pub linesOf : List ℕ → List ℕ → Printed
+unfolding lines fitted
+linesOf xs out = elim (leb (length xs) maxFields) [ true ↦ fitted (lines xs) out | false ↦ printed 0 out ]

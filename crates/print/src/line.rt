@@ -4,7 +4,7 @@ ghost use mathlib.Core.List.{[], _∷_, _++_};
 ghost use Prim.Native.Nat.{_+_, _*_, _≤_, _<_};
 ghost use lib.ListN.{length};
 ghost use Rattle.print.specs.Decimal.{decimal as Decimal·decimal, signed};
-ghost use Rattle.print.specs.Line.{space, fields};
+ghost use Rattle.print.specs.Line.{space, fields, lines as Line·lines};
 ghost use Rattle.print.specs.Inner.Written.{Written, maxPlace};
 use crate::decimal;
 
@@ -79,6 +79,21 @@ pub(crate) fn words64(name: &[u8], words: &[u64], out: &mut [u8], at: usize) -> 
     let mut i = 0;
     while i < words.len() {
         end = field(words[i], out, end);
+        i += 1;
+    }
+    end
+}
+
+// Numbers, a line each.
+pub(crate) fn lines(words: &[u64], out: &mut [u8], at: usize) -> usize
+    requires { ⌜ at + 21 * length (now words) ≤ maxPlace ⌝ }
+    ensures { λ r. ⌜ Written (now (out .entry)) at (Line·lines (now (words .entry))) (now (out .exit)) r ⌝ }
+{
+    let mut end = at;
+    let mut i = 0;
+    while i < words.len() {
+        let after = decimal::put(words[i], out, end);
+        end = byte(10, out, after);
         i += 1;
     }
     end

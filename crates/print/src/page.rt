@@ -3,8 +3,8 @@ ghost use mathlib.Core.Path.{_≡_};
 ghost use Prim.Native.Nat.{_≤_};
 ghost use lib.ListN.{length};
 ghost use Rattle.record.specs.Tables.{lent};
-ghost use Rattle.print.specs.Print.{pageOf, refusedText, printed, fitted, printOf};
-ghost use Rattle.print.specs.Inner.Written.{Written, maxFields};
+ghost use Rattle.print.specs.Print.{pageOf, refusedText, printed, fitted, printOf, maxFields, linesOf};
+ghost use Rattle.print.specs.Inner.Written.{Written};
 use crate::line;
 use record::Record;
 
@@ -91,6 +91,22 @@ pub fn print(unit: Record, h: &[u16], g: &[u16], aux: &[u64], out: &mut [u8]) ->
         &aux[..last],
         out,
     )
+}
+
+const MAX_FIELDS: usize = 8192;
+
+// Prints numbers, a line each, and answers how many bytes that takes; 0, and nothing is written, where they are more than 8,192 or do not fit.
+pub fn lines(words: &[u64], out: &mut [u8]) -> usize
+    ensures { λ r. ⌜ printed r (now (out .exit)) ≡ linesOf (now (words .entry)) (now (out .entry)) ⌝ }
+{
+    if MAX_FIELDS < words.len() {
+        return 0;
+    }
+    let size = line::lines(words, &mut out[..0], 0);
+    if out.len() < size {
+        return 0;
+    }
+    line::lines(words, out, 0)
 }
 
 // Writes the bytes where they fit, and answers how many they are; 0, and nothing is written, where they do not.

@@ -1,13 +1,20 @@
-// Runs the program on texts: each cause of `input`, then a refusal, a unit with no variables, and zeros in front; the output is compared.
+// Runs the program on texts: each cause of `input`, then a refusal, a unit with no variables, and zeros in front; and with words. The
+// output is compared.
+
+// Without a word.
+fn list(text: &[u8]) {
+    console::answer(b"", text);
+}
+
 fn no_lists() {
-    console::answer(b"");
-    console::answer(b"6 2");
-    console::answer(b"6 2 7 16,18");
-    console::answer(b"6 2 7  16");
-    console::answer(b" 6 2 7 16");
-    console::answer(b"6 2 7 16 ");
-    console::answer(b"6 2 7 16\n\n");
-    console::answer(b"64 1 1 18446744073709551616");
+    list(b"");
+    list(b"6 2");
+    list(b"6 2 7 16,18");
+    list(b"6 2 7  16");
+    list(b" 6 2 7 16");
+    list(b"6 2 7 16 ");
+    list(b"6 2 7 16\n\n");
+    list(b"64 1 1 18446744073709551616");
 }
 
 // More than 64 KiB: a vector with zeros in front, and one zero more.
@@ -19,8 +26,8 @@ fn long_text() {
     text[3] = 32;
     text[4] = 55;
     text[5] = 32;
-    console::answer(&text);
-    console::answer(&text[..65536]);
+    list(&text);
+    list(&text[..65536]);
 }
 
 // Every second byte a space: 1,024 vectors are read, and refused by check 3; 1,025 are not read.
@@ -31,15 +38,24 @@ fn many_vectors() {
         text[2 * i] = 49;
         i += 1;
     }
-    console::answer(&text);
-    console::answer(&text[..2053]);
+    list(&text);
+    list(&text[..2053]);
+}
+
+// With words: a list that is refused, a text that is no list, and words that are none.
+fn words() {
+    console::answer(b"pack\n", b"6 2 6 16 18 20 28 32 55 58\n");
+    console::answer(b"pack\n", b"6 2");
+    console::answer(b"pack\nall\n", b"6 1 1 16");
+    console::answer(b"\n", b"6 1 1 16");
 }
 
 fn main() {
     no_lists();
     long_text();
     many_vectors();
-    console::answer(b"6 2 6 16 18 20 28 32 55 58\n");
-    console::answer(b"6 1 1 16");
-    console::answer(b"0006 02 007 16 18\n20 28 32 55 00000000000000000000000058\n");
+    list(b"6 2 6 16 18 20 28 32 55 58\n");
+    list(b"6 1 1 16");
+    list(b"0006 02 007 16 18\n20 28 32 55 00000000000000000000000058\n");
+    words();
 }

@@ -1,13 +1,12 @@
 -- Every answer fits the page, so that a target of a page gets it whole. Assumes nothing.
 use Prim.Native.Nat.{ℕ, _≤_}
 use native.Mathlib.Omega.{arith}
-use mathlib.Core.Path.{_≡_, refl, sym, ap, _∙_}
+use mathlib.Core.Path.{_≡_, refl, sym, ap}
 use mathlib.Core.Bool.{Bool, true, false}
 use mathlib.Core.List.{List, [], _++_}
 use borrow.Author.Tests.{eqb-true, eqb-false}
 use lib.Dec.{eqb}
-use lib.ListN.{length, take, drop, length-append}
-use lib.Seq.{take-append-seam}
+use lib.ListN.{length, drop}
 use Rattle.vectors.specs.declared.Kind.{Kind}
 use Rattle.record.specs.Tables.{Tables}
 use Rattle.build.specs.Refusals.{check2Chosen}
@@ -15,12 +14,13 @@ use Rattle.build.specs.Build.{Outcome, rowsShare, chosenKinds, chosenRefusal, b
 use Rattle.build.proofs.Places.{chosen-place}
 use Rattle.build.proofs.Holding.Passed.{chosen-passed}
 use Rattle.build.proofs.Holding.Ends.{outcome-accepted}
-use Rattle.input.specs.Input.{maxListed, goodText, numbersIn, inputOf}
-use Rattle.print.specs.Print.{Printed, printed, fitted, textOf}
+use Rattle.print.specs.Print.{printed, fitted, textOf}
 use Rattle.print.proofs.Pages.Sizes.{refused-low}
 use Rattle.print.proofs.Pages.Fitting.{fitted-long}
-use Rattle.answer.specs.Answer.{pageSize, roomy, inputText, builtText, answerOf}
-use Rattle.answer.proofs.Answers.{text-accepted, text-refused}
+use Rattle.answer.specs.Make.{roomy, makeOf}
+use Rattle.answer.specs.Answer.{pageSize, inputText, builtText, answerOf}
+use Rattle.answer.proofs.Makes.{of-builds}
+use Rattle.answer.proofs.Answers.{text-accepted, text-refused, made-bad, made-good}
 use Rattle.answer.proofs.Fits.Refused.{chosen-number}
 use Rattle.answer.proofs.Fits.Unit.{unit-low}
 
@@ -47,32 +47,15 @@ module _ (n degree cells : ℕ) (vs : List ℕ) (t : Tables) where
 -- of every text
 pub answer-fits : (text : List ℕ) → length (answerOf text) ≤ pageSize
 unfolding answerOf
-answer-fits text = go (goodText text maxListed) refl
+answer-fits text = go (makeOf text roomy .good) refl
   where
-    go : (q : Bool) → goodText text maxListed ≡ q → length (answerOf text) ≤ pageSize
-    go true q =
-        let i = inputOf text maxListed in
-        rw (q, answerOf) (built-low (i .n) (i .degree) (i .cells) (drop 3 (numbersIn text)) roomy)
-    go false q = rw (q, answerOf) (omega arith)
+    go : (q : Bool) → makeOf text roomy .good ≡ q → length (answerOf text) ≤ pageSize
+    go true q = omega (arith, of-builds (λ (o : Outcome). length (builtText o) ≤ pageSize) built-low text roomy q, ap length (made-good (makeOf text roomy) q))
+    go false q = omega (arith, ap length (made-bad (makeOf text roomy) q))
 
 -- so that it is written whole into a target of a page or more
 pub answer-whole : (text out : List ℕ) → pageSize ≤ length out → fitted (answerOf text) out ≡ printed (length (answerOf text)) (answerOf text ++ drop (length (answerOf text)) out)
 answer-whole text out h = sym (fitted-long (answerOf text) out (omega (arith, answer-fits text)))
-
--- what a call leaves there: the bytes that it counts are the answer
-module _ (text out out′ : List ℕ) (r : ℕ) (e : printed r out′ ≡ fitted (answerOf text) out) (h : pageSize ≤ length out) where
-  pub answer-taken : take r out′ ≡ answerOf text
-  answer-taken = ap (λ (p : Printed). take (p .count) (p .out)) (e ∙ answer-whole text out h) ∙ take-append-seam (answerOf text) (drop (length (answerOf text)) out)
-
-  pub answer-within : r ≤ length out′
-  answer-within =
-      let f = e ∙ answer-whole text out h in
-      omega (
-        arith,
-        ap (λ (p : Printed). p .count) f,
-        ap (λ (p : Printed). length (p .out)) f,
-        length-append (answerOf text) (drop (length (answerOf text)) out),
-      )
 
 -- the empty text is no list
 pub answer-none : answerOf [] ≡ inputText

@@ -53,7 +53,7 @@ length-pos n = go (ltb n 10) refl
     go false t = omega (arith, length-more n (omega (arith, ltb-false n 10 t)))
 
 -- a number below 10^(d + 1) has at most d + 1 digits
-length-below : (d n : ℕ) → n < 10 ^ suc d → length (decimal n) ≤ suc d
+pub length-below : (d n : ℕ) → n < 10 ^ suc d → length (decimal n) ≤ suc d
 length-below zero n h = omega (arith, length-one n (omega arith))
 length-below (suc d) n h = go (ltb n 10) refl (λ l. length-below d (n / 10) (let b : n < 10 ^ suc d * 10 = rw pow-suc at h in omega arith))
   where

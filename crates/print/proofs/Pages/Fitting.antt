@@ -2,16 +2,17 @@
 use Prim.Native.Nat.{ℕ, _+_, _≤_, _<_}
 use native.Mathlib.Omega.{arith}
 use native.Mathlib.Nat.{zero-add}
-use mathlib.Core.Path.{_≡_, ap, ap₂, _∙_}
+use mathlib.Core.Path.{_≡_, sym, ap, ap₂, _∙_}
 use mathlib.Core.Bool.{true, false}
 use mathlib.Core.List.{List, [], _∷_, _++_}
 use borrow.Author.Tests.{le-leb, lt-leb}
-use lib.ListN.{length, take, drop}
+use lib.ListN.{length, take, drop, length-append}
 use lib.Seq.{take-append-seam}
 use Rattle.record.specs.declared.Record.{Record}
 use Rattle.record.specs.Tables.{Tables}
 use Rattle.record.specs.Formed.{wellFormed}
-use Rattle.print.specs.Print.{printed, fitted, textOf, printOf}
+use Rattle.print.specs.Line.{lines}
+use Rattle.print.specs.Print.{Printed, printed, fitted, textOf, printOf, maxFields, linesOf}
 use Rattle.print.specs.Inner.Written.{Written, putAt}
 
 pub fitted-short : (text out : List ℕ) → length out < length text → printed 0 out ≡ fitted text out
@@ -21,6 +22,21 @@ fitted-short text out h = rw (lt-leb (length text) (length out) h, fitted)
 pub fitted-long : (text out : List ℕ) → length text ≤ length out → printed (length text) (text ++ drop (length text) out) ≡ fitted text out
 unfolding fitted
 fitted-long text out h = rw (le-leb (length text) (length out) h, fitted)
+
+-- what a call leaves in a target that is long enough: the bytes that it counts are the text
+module _ (text out out′ : List ℕ) (r : ℕ) (e : printed r out′ ≡ fitted text out) (h : length text ≤ length out) where
+  pub fitted-taken : take r out′ ≡ text
+  fitted-taken = ap (λ (p : Printed). take (p .count) (p .out)) (e ∙ sym (fitted-long text out h)) ∙ take-append-seam text (drop (length text) out)
+
+  pub fitted-within : r ≤ length out′
+  fitted-within =
+      let f = e ∙ sym (fitted-long text out h) in
+      omega (
+        arith,
+        ap (λ (p : Printed). p .count) f,
+        ap (λ (p : Printed). length (p .out)) f,
+        length-append text (drop (length text) out),
+      )
 
 -- a text written in front of bytes that it fits
 pub front-is : {text old out : List ℕ} {end : ℕ} → Written old 0 text out end → end ≤ length old → out ≡ text ++ drop (length text) old
@@ -48,6 +64,15 @@ pub measured-written : (text empty old : List ℕ) {out : List ℕ} {total end :
     → Written (empty ++ old) 0 text out end → printed end out ≡ fitted text old
 measured-written text [] old z e h w = fitted-written w (omega (arith, w .place))
 measured-written text (b ∷ empty) old z e h w = absurd (omega arith)
+
+-- numbers in lines
+pub lines-many : (xs out : List ℕ) → maxFields < length xs → printed 0 out ≡ linesOf xs out
+unfolding linesOf
+lines-many xs out h = rw (lt-leb (length xs) maxFields h, linesOf)
+
+pub lines-few : (xs out : List ℕ) → length xs ≤ maxFields → fitted (lines xs) out ≡ linesOf xs out
+unfolding linesOf
+lines-few xs out h = rw (le-leb (length xs) maxFields h, linesOf)
 
 pub print-unformed : (u : Record) (t : Tables) (out : List ℕ) → wellFormed u t ≡ false → printed 0 out ≡ printOf u t out
 unfolding printOf

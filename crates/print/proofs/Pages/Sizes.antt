@@ -2,7 +2,7 @@
 use Prim.Native.Nat.{ℕ, suc, _+_, _*_, _^_, _≤_, _<_}
 use native.Mathlib.Omega.{arith}
 use native.Mathlib.Nat.{mul-suc}
-use mathlib.Core.List.{List, [], _∷_}
+use mathlib.Core.List.{List, [], _∷_, _++_}
 use lib.IntN.{ℤ}
 use lib.ListN.{length, length-append}
 use mir.Syntax.{w64}
@@ -10,9 +10,9 @@ use mir.Val.{SFits}
 use Rattle.lists.specs.Members.{All}
 use Rattle.lists.proofs.Entries.Members.{all-map}
 use Rattle.print.specs.Decimal.{decimal, signed}
-use Rattle.print.specs.Line.{fields, line}
+use Rattle.print.specs.Line.{newline, fields, line, lines}
 use Rattle.print.specs.Print.{refusedName, pageOf, refusedText}
-use Rattle.print.proofs.Decimals.Digits.{length-half, length-word}
+use Rattle.print.proofs.Decimals.Digits.{length-below, length-half, length-word}
 use Rattle.print.proofs.Decimals.Signs.{signed-low}
 
 -- numbers of at most b digits
@@ -26,6 +26,13 @@ halves-low xs a = fields-low 5 xs (all-map _ _ length-half xs a)
 
 pub words-low : (xs : List ℕ) → All (λ x. x < 2 ^ 64) xs → length (fields xs) ≤ 21 * length xs
 words-low xs a = fields-low 20 xs (all-map _ _ length-word xs a)
+
+-- numbers of at most 20 digits, a line each
+pub lines-low : (xs : List ℕ) → All (λ x. x < 10 ^ 20) xs → length (lines xs) ≤ 21 * length xs
+unfolding lines
+lines-low [] a = omega arith
+lines-low (x ∷ xs) a =
+    omega (arith, length-below 19 x (a .0), lines-low xs (a .1), length-append (decimal x ++ (newline ∷ [])) (lines xs), length-append (decimal x) (newline ∷ []))
 
 -- a name, the numbers and a newline
 line-low : (name xs : List ℕ) → length (line name xs) ≤ length name + length (fields xs) + 1

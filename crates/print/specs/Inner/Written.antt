@@ -16,7 +16,3 @@ pub record Written (old : List ℕ) (at : ℕ) (text out : List ℕ) (end : ℕ)
 -- the largest place that a word holds
 abbrev pub maxPlace : ℕ
 maxPlace = 2 ^ 64 - 1
-
--- more numbers than any line has
-abbrev pub maxFields : ℕ
-maxFields = 8192

@@ -4,18 +4,19 @@ use Prim.Native.Nat.{_-_}
 use native.Mathlib.Omega.{arith}
 use mathlib.Core.Path.{_∙_}
 use lib.ListN.{length}
-use Rattle.print.proofs.Writing.Words.{Filling, filling-none, filling-more, filling-end}
+use Rattle.print.specs.Line.{fields}
+use Rattle.print.proofs.Writing.Words.{field-short, Filling, filling-none, filling-more, filling-end}
 use Rattle.print.proofs.line.words16.Statement.{statement}
 use Rattle.print.proofs.line.words16.Tie as tie
 
 abbrev Inv-loop : tie.InvT-loop
-Inv-loop name words out₀ at end₀ i₀ out end i = Filling out₀ end₀ words out end i
+Inv-loop name words out₀ at end₀ i₀ out end i = Filling fields out₀ end₀ words out end i
 
 abbrev μ-loop : tie.MeasureT-loop
 μ-loop name words out₀ at end₀ i₀ out end i = length words - i
 
 loop-holds : tie.Need-loop-holds Inv-loop μ-loop
-loop-holds c = filling-none
+loop-holds c = filling-none field-short
 
 cast-field : tie.Need-cast-field Inv-loop μ-loop
 cast-field c = omega (arith, c .shared-slice-known3 .given (c .before .before .loop .i))
@@ -29,13 +30,13 @@ field-requires c κs =
 loop-again : tie.Need-loop-again Inv-loop μ-loop
 loop-again c =
     let t = c .before .before .before .before .before in
-    filling-more (t .before .loop .inv) (t .loop-test .taken) (omega (arith, c .before .before .before .before .shared-slice-known3 .given (t .before .loop .i))) (c .before .before .field .ensures)
+    filling-more field-short (t .before .loop .inv) (t .loop-test .taken) (omega (arith, c .before .before .before .before .shared-slice-known3 .given (t .before .loop .i))) (c .before .before .field .ensures)
 
 same-length : tie.Need-same-length Inv-loop μ-loop
 same-length c = c .before .loop .inv .so-far .so-far .size ∙ c .before .before .before .before .bytes .ensures .size
 
 returns : tie.Need-returns Inv-loop μ-loop
-returns c = filling-end (c .before .loop .inv) (c .before .before .before .before .bytes .ensures) (c .loop-test .left)
+returns c = filling-end field-short (c .before .loop .inv) (c .before .before .before .before .bytes .ensures) (c .loop-test .left)
 
 pub words16-spec : {M : Type 1} → statement M
 words16-spec =

@@ -3,7 +3,7 @@ use borrow.Author.Needs.{needs}
 use Prim.Native.Nat.{ℕ, _+_, _*_, _≤_}
 use native.Mathlib.Omega.{arith}
 use mir.Facts.{toZ-ofZ}
-use Rattle.print.specs.Inner.Written.{maxFields}
+use Rattle.print.specs.Print.{maxFields}
 use Rattle.print.proofs.Writing.Pieces.{written-more}
 use Rattle.print.proofs.Pages.Lines.{page-written}
 use Rattle.print.proofs.page.write_page.Statement.{statement}

@@ -1,0 +1,44 @@
+-- `words::words` meets its contract. Assumes nothing.
+use Prim.Native.Nat.{ℕ}
+use mathlib.Core.Path.{sym, ap, _∙_}
+use mathlib.Core.List.{List}
+use Rattle.print.specs.Print.{fitted}
+use Rattle.words.proofs.Cases.{words-none, words-pack, words-other}
+use borrow.Author.Needs.{needs}
+use Rattle.words.proofs.words.Statement.{statement}
+use Rattle.words.proofs.words.Tie as tie
+
+returns : tie.Need-returns
+returns c =
+    let s = c .before .before .before .before .before .before .before .before in
+    c .before .before .answer .ensures
+    ∙ ap (λ (x : List ℕ). fitted x (s .args .out .now)) (words-none (s .args .given .now) (s .args .text .now) (c .before .before .before .before .if1 .taken))
+
+returns-2 : tie.Need-returns-2
+returns-2 c =
+    let s = c .before .before .before .before .before .before .before .before .before .before .before in
+    c .before .before .pack .ensures
+    ∙ ap (λ (x : List ℕ). fitted x (s .args .out .now)) (words-pack (s .args .given .now) (s .args .text .now) (c .before .before .before .before .before .before .before .if1 .left) (sym (c .before .before .before .before .before .says .ensures) ∙ c .before .before .before .before .if2 .taken))
+
+returns-3 : tie.Need-returns-3
+returns-3 c =
+    let s = c .before .before .before .before .before .before .before .before .before .before .before .before in
+    c .before .before .text .ensures
+    ∙ ap (λ (x : List ℕ). fitted x (s .args .out .now)) (words-other (s .args .given .now) (s .args .text .now) (c .before .before .before .before .before .before .before .before .if1 .left) (sym (c .before .before .before .before .before .before .says .ensures) ∙ c .before .before .before .before .before .if2 .left))
+
+pub words-spec : {M : Type 1} → statement M
+words-spec =
+    tie.close
+    (tie.spec
+    (λ c κs. search needs)
+    (λ c. search needs)
+    returns
+    (λ c. search needs)
+    (λ c κs. search needs)
+    (λ c κs. search needs)
+    (λ c. search needs)
+    returns-2
+    (λ c. search needs)
+    (λ c κs. search needs)
+    (λ c. search needs)
+    returns-3)
