@@ -7,3 +7,4 @@ pub mod Changed
 pub mod Damage
 pub mod Carried
 pub mod Demands
+pub mod Loaded

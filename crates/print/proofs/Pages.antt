@@ -3,3 +3,4 @@ pub mod Lines
 pub mod Sizes
 pub mod Fitting
 pub mod Formed
+pub mod Lengths

@@ -1,5 +1,6 @@
--- Texts written at places: one, a number's digits from the last, piece after piece, and numbers after a name. Assumes nothing.
+-- Texts written at places: one, a number's digits from the last, piece after piece, numbers after a name, and numbers behind lines. Assumes nothing.
 pub mod Puts
 pub mod Spelling
 pub mod Pieces
 pub mod Words
+pub mod Beside

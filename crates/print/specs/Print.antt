@@ -12,7 +12,7 @@ use Rattle.record.specs.Tables.{Tables}
 use Rattle.record.specs.Formed.{wellFormed}
 use Rattle.print.specs.Ascii.{ascii}
 use Rattle.print.specs.Decimal.{signed}
-use Rattle.print.specs.Line.{space, newline, fields, line, lines}
+use Rattle.print.specs.Line.{space, newline, fields, line, lines, beside}
 
 -- the names that the lines open with: the six of a unit, and that of a refusal
 abbrev pub unitName : List ℕ
@@ -92,3 +92,12 @@ maxFields = 8192
 unfoldable pub linesOf : List ℕ → List ℕ → Printed
 unfolding lines fitted
 linesOf xs out = elim (leb (length xs) maxFields) [ true ↦ fitted (lines xs) out | false ↦ printed 0 out ]
+
+-- more bytes than any text has whose lines get numbers
+abbrev pub maxBytes : ℕ
+maxBytes = 65536
+
+-- a text's lines with their numbers; nothing where the text is too long
+unfoldable pub besideOf : List ℕ → List ℕ → List ℕ → Printed
+unfolding beside fitted
+besideOf bytes ns out = elim (leb (length bytes) maxBytes) [ true ↦ fitted (beside bytes ns) out | false ↦ printed 0 out ]

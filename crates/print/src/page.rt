@@ -3,7 +3,7 @@ ghost use mathlib.Core.Path.{_≡_};
 ghost use Prim.Native.Nat.{_≤_};
 ghost use lib.ListN.{length};
 ghost use Rattle.record.specs.Tables.{lent};
-ghost use Rattle.print.specs.Print.{pageOf, refusedText, printed, fitted, printOf, maxFields, linesOf};
+ghost use Rattle.print.specs.Print.{pageOf, refusedText, printed, fitted, printOf, maxFields, linesOf, besideOf};
 ghost use Rattle.print.specs.Inner.Written.{Written};
 use crate::line;
 use record::Record;
@@ -107,6 +107,23 @@ pub fn lines(words: &[u64], out: &mut [u8]) -> usize
         return 0;
     }
     line::lines(words, out, 0)
+}
+
+const MAX_BYTES: usize = 65536;
+
+// Prints the lines of a text, a number behind each, and answers how many bytes that takes; 0, and nothing is written, where the text has more
+// than 65,536 bytes or they do not fit.
+pub fn beside(text: &[u8], numbers: &[u64], out: &mut [u8]) -> usize
+    ensures { λ r. ⌜ printed r (now (out .exit)) ≡ besideOf (now (text .entry)) (now (numbers .entry)) (now (out .entry)) ⌝ }
+{
+    if MAX_BYTES < text.len() {
+        return 0;
+    }
+    let size = line::beside(text, numbers, &mut out[..0], 0);
+    if out.len() < size {
+        return 0;
+    }
+    line::beside(text, numbers, out, 0)
 }
 
 // Writes the bytes where they fit, and answers how many they are; 0, and nothing is written, where they do not.

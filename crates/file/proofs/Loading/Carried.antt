@@ -31,7 +31,7 @@ roomy-long u s t h r =
       lt-ltb (u .k) (length (t .aux)) (omega (arith, k .vectors-few, r .words)),
     )
 
-same-record : (u : Record) → SameRecord u u
+pub same-record : (u : Record) → SameRecord u u
 same-record u = record { n = refl; p = refl; n1 = refl; k = refl; cells = refl; tries = refl; variables = refl; kept = refl }
 
 module _ (u : Record) (s t : Tables) (h : sound u s ≡ true) where

@@ -11,8 +11,8 @@ use lib.Seq.{take-append-seam}
 use Rattle.record.specs.declared.Record.{Record}
 use Rattle.record.specs.Tables.{Tables}
 use Rattle.record.specs.Formed.{wellFormed}
-use Rattle.print.specs.Line.{lines}
-use Rattle.print.specs.Print.{Printed, printed, fitted, textOf, printOf, maxFields, linesOf}
+use Rattle.print.specs.Line.{lines, beside}
+use Rattle.print.specs.Print.{Printed, printed, fitted, textOf, printOf, maxFields, linesOf, maxBytes, besideOf}
 use Rattle.print.specs.Inner.Written.{Written, putAt}
 
 pub fitted-short : (text out : List ℕ) → length out < length text → printed 0 out ≡ fitted text out
@@ -73,6 +73,15 @@ lines-many xs out h = rw (lt-leb (length xs) maxFields h, linesOf)
 pub lines-few : (xs out : List ℕ) → length xs ≤ maxFields → fitted (lines xs) out ≡ linesOf xs out
 unfolding linesOf
 lines-few xs out h = rw (le-leb (length xs) maxFields h, linesOf)
+
+-- numbers behind lines
+pub beside-long : (text ns out : List ℕ) → maxBytes < length text → printed 0 out ≡ besideOf text ns out
+unfolding besideOf
+beside-long text ns out h = rw (lt-leb (length text) maxBytes h, besideOf)
+
+pub beside-fits : (text ns out : List ℕ) → length text ≤ maxBytes → fitted (beside text ns) out ≡ besideOf text ns out
+unfolding besideOf
+beside-fits text ns out h = rw (le-leb (length text) maxBytes h, besideOf)
 
 pub print-unformed : (u : Record) (t : Tables) (out : List ℕ) → wellFormed u t ≡ false → printed 0 out ≡ printOf u t out
 unfolding printOf

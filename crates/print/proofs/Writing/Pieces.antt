@@ -10,7 +10,7 @@ use Rattle.print.specs.Inner.Written.{Written, putAt}
 use Rattle.print.proofs.Writing.Puts.{put-nil, put-one, put-put}
 
 module _ {old : List ℕ} {at : ℕ} where
-  written-none : Written old at [] old at
+  pub written-none : Written old at [] old at
   written-none = record { place = omega arith; size = refl; is = λ h. sym (put-nil old at) }
 
   -- a text, and one right after it

@@ -1,0 +1,4 @@
+pub mod Keys
+pub mod Find
+pub mod FindSamples
+pub mod Inner
