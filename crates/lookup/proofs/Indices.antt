@@ -1,4 +1,4 @@
--- A build's place is a row, or the number of a vector or a variable, and a lookup's index is the number of a vector: they are small. Assumes nothing.
+-- A lookup's index is the number of a vector, and its refusal one of the list: they are small. Assumes nothing.
 use Prim.Native.Nat.{ℕ, _^_, _≤_, _<_}
 use native.Mathlib.Omega.{arith}
 use native.Mathlib.Nat.{eq-zero-or-pos}
@@ -20,34 +20,38 @@ use Rattle.lookup.specs.Lookup.{compared, answer, lookupOf}
 use Rattle.record.proofs.Formed.{few-words}
 use Rattle.lookup.proofs.Lookups.{answer-out, answer-in, compared-none, compared-above, compared-other, compared-same, lookup-unformed, lookup-beyond, lookup-answer}
 
--- ---- lookup
-
 abbrev Few : Found → Type 0
-Few f = f .index ≤ maxVectors
+Few f = (f .index ≤ maxVectors) × (f .refusal ≤ 14)
 
 -- the index is the one that the cell holds, or 0
 compared-few : (u : Record) (aux : List ℕ) (x i : ℕ) → u .k ≤ maxVectors → Few (compared u aux x i)
 compared-few u aux x i h = ⊎-elim some past (le-or-lt i (u .k))
   where
     past : u .k < i → Few (compared u aux x i)
-    past l = rw (← compared-above u aux x i l) (omega arith)
+    past l = rw (← compared-above u aux x i l) (omega arith, omega arith)
 
     held : 0 < i → i ≤ u .k → (b : Bool) → eqb (getD aux i 0) (wordIn u x) ≡ b → Few (compared u aux x i)
-    held p l true e = rw (← compared-same u aux x i (λ z. omega arith) l (eqb-true _ _ e)) (omega arith)
-    held p l false e = rw (← compared-other u aux x i (λ z. omega arith) l (eqb-false _ _ e)) (omega arith)
+    held p l true e = rw (← compared-same u aux x i (λ z. omega arith) l (eqb-true _ _ e)) (omega arith, omega arith)
+    held p l false e = rw (← compared-other u aux x i (λ z. omega arith) l (eqb-false _ _ e)) (omega arith, omega arith)
 
     some : i ≤ u .k → Few (compared u aux x i)
-    some l = ⊎-elim (λ z. rw (← compared-none u aux x i z) (omega arith)) (λ p. held p l (eqb (getD aux i 0) (wordIn u x)) refl) (eq-zero-or-pos i)
+    some l = ⊎-elim (λ z. rw (← compared-none u aux x i z) (omega arith, omega arith)) (λ p. held p l (eqb (getD aux i 0) (wordIn u x)) refl) (eq-zero-or-pos i)
 
 answer-few : (u : Record) (t : Tables) (x : ℕ) → u .k ≤ maxVectors → Few (answer u t x)
 answer-few u t x h =
-    ⊎-elim (λ l. rw (← answer-out u t x (cellIn u t x) refl l) (omega arith))
+    ⊎-elim (λ l. rw (← answer-out u t x (cellIn u t x) refl l) (omega arith, omega arith))
     (λ l. rw (← answer-in u t x (cellIn u t x) refl l) (compared-few u (t .aux) x (getD (t .g) (cellIn u t x) 0) h)) (le-or-lt (u .cells) (cellIn u t x))
 
-pub found-index : (u : Record) (t : Tables) (x : ℕ) → lookupOf u t x .index ≤ maxVectors
-found-index u t x = go (wellFormed u t) refl
+found-few : (u : Record) (t : Tables) (x : ℕ) → Few (lookupOf u t x)
+found-few u t x = go (wellFormed u t) refl
   where
     go : (b : Bool) → wellFormed u t ≡ b → Few (lookupOf u t x)
-    go false e = rw (← lookup-unformed u t x e) (omega arith)
+    go false e = rw (← lookup-unformed u t x e) (omega arith, omega arith)
     go true e =
-        ⊎-elim (λ l. rw (← lookup-beyond u t x e l) (omega arith)) (λ l. rw (← lookup-answer u t x e l) (answer-few u t x (few-words u t e .0))) (le-or-lt (2 ^ u .n) x)
+        ⊎-elim (λ l. rw (← lookup-beyond u t x e l) (omega arith, omega arith)) (λ l. rw (← lookup-answer u t x e l) (answer-few u t x (few-words u t e .0))) (le-or-lt (2 ^ u .n) x)
+
+pub found-index : (u : Record) (t : Tables) (x : ℕ) → lookupOf u t x .index ≤ maxVectors
+found-index u t x = found-few u t x .0
+
+pub found-number : (u : Record) (t : Tables) (x : ℕ) → lookupOf u t x .refusal ≤ 14
+found-number u t x = found-few u t x .1

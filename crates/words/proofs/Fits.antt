@@ -1,21 +1,61 @@
 -- Everything written fits the page, so that a target of a page gets it whole. Assumes nothing.
-use Prim.Native.Nat.{ℕ, _≤_}
+use Prim.Native.Nat.{ℕ, _^_, _≤_, _<_}
 use native.Mathlib.Omega.{arith}
-use mathlib.Core.Path.{_≡_, refl, ap}
+use mathlib.Core.Path.{_≡_, refl, sym, ap, _∙_}
 use mathlib.Core.Bool.{Bool, true, false}
 use mathlib.Core.List.{List}
 use borrow.Author.Tests.{eqb-true, eqb-false}
 use lib.Dec.{eqb}
-use lib.ListN.{length}
+use lib.ListN.{length, drop}
+use Rattle.record.specs.declared.Record.{Record}
+use Rattle.record.specs.Tables.{Tables}
+use Rattle.print.proofs.Pages.Sizes.{refused-low}
+use Rattle.print.proofs.Pages.Lengths.{text-low}
+use Rattle.file.specs.Read.{Reading, readOf}
+use Rattle.file.proofs.Loading.Loaded.{Loaded, read-loaded, read-number}
+use Rattle.answer.specs.Make.{roomy}
 use Rattle.answer.proofs.Fits.Page.{answer-fits}
 use Rattle.pack.proofs.Fits.{pack-fits}
-use Rattle.words.specs.Words.{pageSize, says, packWord, wordsOf}
-use Rattle.words.proofs.Cases.{words-none, words-pack, words-other}
+use Rattle.listing.proofs.Fits.{list-fits}
+use Rattle.find.proofs.Fits.{find-fits}
+use Rattle.words.specs.Words.{pageSize, opens, says, packWord, showWord, listWord, findWord, asksFile, ofUnit, ofReading, ofFile, wordsOf}
+use Rattle.words.proofs.Writing.{file-refused, file-read, words-none, words-pack, words-file, words-other}
 
-pub words-fits : (given text : List ℕ) → length (wordsOf given text) ≤ pageSize
-words-fits given text = go (eqb (length given) 0) refl (says packWord given) refl
+unit-fits : (given : List ℕ) (u : Record) (t : Tables) → Loaded u t → length (ofUnit given u t) ≤ pageSize
+unfolding ofUnit
+unit-fits given u t l = go (says showWord given) refl (says listWord given) refl
   where
-    go : (a : Bool) → eqb (length given) 0 ≡ a → (b : Bool) → says packWord given ≡ b → length (wordsOf given text) ≤ pageSize
-    go true p b q = omega (arith, answer-fits text, ap length (words-none given text (eqb-true (length given) 0 p)))
-    go false p true q = omega (arith, pack-fits text, ap length (words-pack given text (eqb-false (length given) 0 p) q))
-    go false p false q = omega (arith, ap length (words-other given text (eqb-false (length given) 0 p) q))
+    go : (a : Bool) → says showWord given ≡ a → (b : Bool) → says listWord given ≡ b → length (ofUnit given u t) ≤ pageSize
+    go true p b q =
+        rw (p, ofUnit)
+        (text-low u t (l .is-sound) record { tries = omega (arith, l .tries); excess = l .excess; h = l .words .h; g = l .words .g; aux = l .words .aux })
+    go false p true q = rw (p, q, ofUnit) (omega (arith, list-fits u t))
+    go false p false q = rw (p, q, ofUnit) (omega (arith, find-fits u t (drop (length findWord) given)))
+
+file-fits : (given file : List ℕ) → length (ofFile given file) ≤ pageSize
+file-fits given file = go (eqb (r .refusal) 0) refl
+  where
+    r : Reading
+    r = readOf file roomy
+
+    go : (q : Bool) → eqb (r .refusal) 0 ≡ q → length (ofFile given file) ≤ pageSize
+    go true q =
+        let z = eqb-true (r .refusal) 0 q in
+        omega (arith, unit-fits given (r .unit) (r .tables) (read-loaded file roomy z), ap length (file-read given file r refl z))
+    go false q =
+        let b = read-number file roomy in
+        omega (
+          arith,
+          refused-low (r .refusal) (r .place) (omega (arith, b .0)) (omega (arith, b .1)),
+          ap length (file-refused given file r refl (eqb-false (r .refusal) 0 q)),
+        )
+
+-- of all words and texts
+pub words-fits : (given text : List ℕ) → length (wordsOf given text) ≤ pageSize
+words-fits given text = go (eqb (length given) 0) refl (says packWord given) refl (asksFile given) refl
+  where
+    go : (a : Bool) → eqb (length given) 0 ≡ a → (b : Bool) → says packWord given ≡ b → (c : Bool) → asksFile given ≡ c → length (wordsOf given text) ≤ pageSize
+    go true p b q c r = omega (arith, answer-fits text, ap length (words-none given text (eqb-true (length given) 0 p)))
+    go false p true q c r = omega (arith, pack-fits text, ap length (words-pack given text (eqb-false (length given) 0 p) q))
+    go false p false q true r = omega (arith, file-fits given text, ap length (words-file given text (eqb-false (length given) 0 p) q r))
+    go false p false q false r = omega (arith, ap length (words-other given text (eqb-false (length given) 0 p) q r))

@@ -1,2 +1,3 @@
-pub mod Cases
+pub mod Tests
+pub mod Writing
 pub mod Fits

@@ -1,7 +1,11 @@
 // What the program writes for the words of its call and what it reads.
 ghost use mathlib.Core.Path.{_≡_};
+ghost use mathlib.Core.Bool.{true};
+ghost use Rattle.record.specs.Tables.{lent};
 ghost use Rattle.print.specs.Print.{printed, fitted};
-ghost use Rattle.words.specs.Words.{opens as Words·opens, says as Words·says, wordsOf};
+ghost use Rattle.words.specs.Words.{opens as Words·opens, says as Words·says, asksFile, ofFile, wordsOf};
+ghost use Rattle.words.specs.Inner.{unitPrinted};
+use unit::Record;
 
 // Bytes that everything written fits into (`pageSize`).
 pub const PAGE: usize = answer::PAGE;
@@ -33,6 +37,55 @@ fn says(word: &[u8], bytes: &[u8]) -> bool
     opens(word, bytes)
 }
 
+// Whether the words are for the file of a unit.
+fn asks_file(given: &[u8]) -> bool
+    ensures { λ r. ⌜ r ≡ asksFile (now (given .entry)) ⌝ }
+{
+    if says(b"show\n", given) {
+        return true;
+    }
+    if says(b"list\n", given) {
+        return true;
+    }
+    opens(b"find\n", given)
+}
+
+// Prints a unit, its list, or the keys that come after `find`.
+fn print_unit(
+    given: &[u8],
+    unit: Record,
+    h: &[u16],
+    g: &[u16],
+    aux: &[u64],
+    out: &mut [u8],
+) -> usize
+    requires { ⌜ asksFile (now given) ≡ true ⌝ }
+    ensures { λ r. ⌜ printed r (now (out .exit)) ≡ unitPrinted (now (given .entry)) unit (lent (now (h .entry)) (now (g .entry)) (now (aux .entry))) (now (out .entry)) ⌝ }
+{
+    if says(b"show\n", given) {
+        return print::print(unit, h, g, aux, out);
+    }
+    if says(b"list\n", given) {
+        return listing::list(unit, h, g, aux, out);
+    }
+    find::find(&given[5..], unit, h, g, aux, out)
+}
+
+// Reads the file of a unit, and prints what the words ask for, or the refusal.
+fn from_file(given: &[u8], file: &[u8], out: &mut [u8]) -> usize
+    requires { ⌜ asksFile (now given) ≡ true ⌝ }
+    ensures { λ r. ⌜ printed r (now (out .exit)) ≡ fitted (ofFile (now (given .entry)) (now (file .entry))) (now (out .entry)) ⌝ }
+{
+    let mut h = [0u16; 4096];
+    let mut g = [0u16; 8192];
+    let mut aux = [0u64; 1025];
+    let loaded = load::read(file, &mut h, &mut g, &mut aux);
+    if loaded.refusal != 0 {
+        return print::refused(loaded.refusal, loaded.place, out);
+    }
+    print_unit(given, loaded.unit, &h, &g, &aux, out)
+}
+
 // Does what the words say, each of them a line: answers how many bytes are written; 0, and nothing is written, where they do not fit.
 pub fn words(given: &[u8], text: &[u8], out: &mut [u8]) -> usize
     ensures { λ r. ⌜ printed r (now (out .exit)) ≡ fitted (wordsOf (now (given .entry)) (now (text .entry))) (now (out .entry)) ⌝ }
@@ -43,5 +96,8 @@ pub fn words(given: &[u8], text: &[u8], out: &mut [u8]) -> usize
     if says(b"pack\n", given) {
         return pack::pack(text, out);
     }
-    print::text(b"input\n", out)
+    if !asks_file(given) {
+        return print::text(b"input\n", out);
+    }
+    from_file(given, text, out)
 }

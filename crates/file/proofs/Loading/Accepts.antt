@@ -24,7 +24,7 @@ use Rattle.file.proofs.Loading.Checks.{same-self, same-is, file-right}
 
 module _ (file : List ℕ) (t : Tables) where
   -- the four tests
-  abbrev reading : Bool → Bool → Bool → Bool → Reading
+  abbrev pub reading : Bool → Bool → Bool → Bool → Reading
   reading none right is long =
       elim none [
         | true ↦ refusedRead 21 t

@@ -1,8 +1,8 @@
 -- A unit that was read is sound, and its words are words of 16 and 64 bits. Assumes nothing.
 use mathlib.Core.Path.{_≡_, refl, sym, ap, _∙_}
-use mathlib.Core.Bool.{true}
+use mathlib.Core.Bool.{Bool, true, false}
 use mathlib.Core.List.{List, [], _∷_, map}
-use Prim.Native.Nat.{ℕ, _%_, _^_, _≤_, _<_}
+use Prim.Native.Nat.{ℕ, _/_, _%_, _^_, _≤_, _<_}
 use native.Mathlib.Omega.{arith}
 use native.Mathlib.Nat.{mod-lt}
 use lib.IntN.{ℤ}
@@ -14,16 +14,17 @@ use Rattle.lists.proofs.Entries.Alls.{all-take}
 use Rattle.record.specs.declared.Record.{Record}
 use Rattle.record.specs.Record.{recordOf, excessOf, kindsIn}
 use Rattle.record.specs.Tables.{Tables}
-use Rattle.record.specs.Formed.{sound}
+use Rattle.record.specs.Formed.{sound, longEnough}
+use Rattle.block.specs.Block.{blockSize}
 use Rattle.record.proofs.Excesses.{excess-fits}
 use Rattle.file.specs.File.{rowsIn, wordsIn, fileOf}
 use Rattle.file.specs.Decode.{recordIn, tablesIn}
-use Rattle.file.specs.Read.{Reading, loadedRead, readOf}
+use Rattle.file.specs.Read.{Reading, noBlocks, rightChecks, isFile, loadedRead, readOf}
 use Rattle.file.specs.Facts.{WordsFit, carriedRecord, carriedTables}
 use Rattle.file.proofs.Outcomes.{ranges}
 use Rattle.file.proofs.Decoding.Units.{record-read, tables-read}
 use Rattle.file.proofs.Decoding.Again.{sound-same}
-use Rattle.file.proofs.Loading.Accepts.{read-passed, passed-read, is-says}
+use Rattle.file.proofs.Loading.Accepts.{reading, read-is, read-passed, passed-read, is-says}
 use Rattle.file.proofs.Loading.Again.{h-range, g-range, aux-range, over-long}
 use Rattle.file.proofs.Loading.Carried.{same-record}
 
@@ -83,3 +84,17 @@ module _ (file : List ℕ) (t : Tables) (e : readOf file t .refusal ≡ 0) where
 
   pub read-loaded : Loaded (readOf file t .unit) (readOf file t .tables)
   read-loaded = rw (passed-read file t (read-passed file t e)) loaded
+
+-- ---- every answer
+
+module _ (file : List ℕ) (t : Tables) where
+  -- the refusals are below 25, and the place is 0
+  pub read-number : (readOf file t .refusal ≤ 24) × (readOf file t .place ≤ 0)
+  read-number = rw (read-is file t) (go (noBlocks file) (rightChecks (length file / blockSize) file) (isFile file) (longEnough (recordIn file) t))
+    where
+      go : (a b c d : Bool) → (reading file t a b c d .refusal ≤ 24) × (reading file t a b c d .place ≤ 0)
+      go true b c d = (omega arith, omega arith)
+      go false false c d = (omega arith, omega arith)
+      go false true false d = (omega arith, omega arith)
+      go false true true true = (omega arith, omega arith)
+      go false true true false = (omega arith, omega arith)

@@ -66,7 +66,7 @@ text-low u t h l =
 -- ---- lines with their numbers
 
 -- how many lines a text ends
-pub lineEnds : List ℕ → ℕ
+unfoldable pub lineEnds : List ℕ → ℕ
 lineEnds [] = 0
 lineEnds (b ∷ bs) = ends b + lineEnds bs
 

@@ -1,7 +1,7 @@
 -- `words::opens` meets its contract. Assumes nothing.
 use Prim.Native.Nat.{_-_}
 use lib.ListN.{length}
-use Rattle.words.proofs.Cases.{Opening, opens-short, opening-none, opening-more, opening-other, opening-end}
+use Rattle.words.proofs.Tests.{Opening, opens-short, opening-none, opening-more, opening-other, opening-end}
 use borrow.Author.Needs.{needs}
 use Rattle.words.proofs.opens.Statement.{statement}
 use Rattle.words.proofs.opens.Tie as tie

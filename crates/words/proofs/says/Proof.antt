@@ -1,6 +1,6 @@
 -- `words::says` meets its contract. Assumes nothing.
 use mathlib.Core.Path.{_∙_}
-use Rattle.words.proofs.Cases.{says-short, says-long}
+use Rattle.words.proofs.Tests.{says-short, says-long}
 use borrow.Author.Needs.{needs}
 use Rattle.words.proofs.says.Statement.{statement}
 use Rattle.words.proofs.says.Tie as tie

@@ -1,19 +1,16 @@
--- What is written, word by word. Assumes nothing.
+-- The tests of words. Assumes nothing.
 use Prim.Native.Nat.{ℕ, zero, suc, _+_, _≤_, _<_}
 use native.Mathlib.Numerals.{add-one}
 use native.Mathlib.Omega.{arith}
 use mathlib.Core.Path.{_≡_, refl, sym, _∙_}
-use mathlib.Core.Bool.{Bool, true, false, _&&_}
+use mathlib.Core.Bool.{Bool, true, false, false≢true, _&&_, _||_}
 use mathlib.Core.List.{List, [], _∷_}
 use borrow.Author.Tests.{eq-eqb, ne-eqb}
 use lib.Dec.{eqb}
 use lib.ListN.{length, getD, drop}
 use lib.Seq.{drop-nil}
-use Rattle.answer.specs.Answer.{inputText, answerOf}
-use Rattle.pack.specs.Pack.{packOf}
-use Rattle.words.specs.Words.{opens, says, packWord, wordsOf}
-
--- ---- the test of a word
+use Rattle.lists.proofs.Tests.{and-true}
+use Rattle.words.specs.Words.{opens, says, showWord, listWord, findWord, asksFile}
 
 -- bytes that are fewer than the word's
 pub opens-short : (word bytes : List ℕ) → length bytes < length word → false ≡ opens word bytes
@@ -73,18 +70,25 @@ module _ (word bytes : List ℕ) where
   pub says-long : length bytes ≡ length word → opens word bytes ≡ says word bytes
   says-long e = rw (eq-eqb (length bytes) (length word) e)
 
--- ---- the words
+-- bytes that begin with a word are as many at least
+pub opens-long : (word bytes : List ℕ) → opens word bytes ≡ true → length word ≤ length bytes
+unfolding opens
+opens-long [] bytes h = omega arith
+opens-long (w ∷ ws) [] h = absurd (false≢true h)
+opens-long (w ∷ ws) (b ∷ bs) h = omega (arith, opens-long ws bs (and-true (eqb w b) (opens ws bs) h .1))
 
-module _ (given text : List ℕ) where
-  pub words-none : length given ≡ 0 → answerOf text ≡ wordsOf given text
-  unfolding wordsOf
-  words-none e = rw (eq-eqb (length given) 0 e, wordsOf)
+-- ---- words for a file
 
-  module _ (some : length given ≡ 0 → ⊥) where
-    pub words-pack : says packWord given ≡ true → packOf text ≡ wordsOf given text
-    unfolding wordsOf
-    words-pack h = rw (ne-eqb (length given) 0 some, h, wordsOf)
+module _ (given : List ℕ) where
+  pub asks-show : says showWord given ≡ true → true ≡ asksFile given
+  unfolding asksFile
+  asks-show h = rw (h, asksFile)
 
-    pub words-other : says packWord given ≡ false → inputText ≡ wordsOf given text
-    unfolding wordsOf
-    words-other h = rw (ne-eqb (length given) 0 some, h, wordsOf)
+  module _ (no-show : says showWord given ≡ false) where
+    pub asks-list : says listWord given ≡ true → true ≡ asksFile given
+    unfolding asksFile
+    asks-list h = rw (no-show, h, asksFile)
+
+    pub asks-find : says listWord given ≡ false → opens findWord given ≡ asksFile given
+    unfolding asksFile
+    asks-find h = rw (no-show, h, asksFile)
