@@ -1,0 +1,54 @@
+// The program on the file of a unit: the list S is packed, and the file is then shown, listed, searched, damaged and cut. The output is compared.
+
+const LIST: [u8; 26] = *b"6 2 7 16 18 20 28 32 55 58";
+
+// The words on the bytes of a file from one on and up to another.
+fn ask(given: &[u8], file: &[u8], from: usize, to: usize) {
+    if from <= to && to <= file.len() {
+        console::answer(given, &file[from..to]);
+    }
+}
+
+// A byte with some of its bits turned over.
+fn change(file: &mut [u8], at: usize, bits: u8) {
+    if at < file.len() {
+        file[at] ^= bits;
+    }
+}
+
+// The words on the file of the list S, from one byte on and up to another, with one byte changed.
+fn on_part(given: &[u8], from: usize, to: usize, at: usize, bits: u8) {
+    let mut file = [0u8; 2048];
+    words::words(b"pack\n", &LIST, &mut file);
+    change(&mut file, at, bits);
+    ask(given, &file, from, to);
+}
+
+fn on_file(given: &[u8]) {
+    on_part(given, 0, 2048, 0, 0);
+}
+
+fn main() {
+    on_file(b"show\n");
+    on_file(b"list\n");
+    // registered, not registered, in either base
+    on_file(b"find\n20\n6\n0x3A\n0x3f\n");
+    // too wide, no key, no digit, a sign
+    on_file(b"find\n20\n64\n");
+    on_file(b"find\n");
+    on_file(b"find\nred\n");
+    on_file(b"find\n-1\n");
+    // more words than one
+    on_file(b"show\nall\n");
+    on_file(b"list\nall\n");
+    // an empty file, one cut within a block, a byte changed, a whole block that is no head, and one cut after a block
+    on_part(b"show\n", 0, 0, 0, 0);
+    on_part(b"list\n", 0, 700, 0, 0);
+    on_part(b"find\n20\n", 0, 2048, 600, 1);
+    on_part(b"show\n", 512, 1024, 0, 0);
+    on_part(b"list\n", 0, 1536, 0, 0);
+    // a list where a file is expected, and a file where a list is
+    console::answer(b"show\n", &LIST);
+    on_file(b"pack\n");
+    on_file(b"");
+}
