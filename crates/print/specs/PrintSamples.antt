@@ -1,4 +1,4 @@
--- The printed page of SCOPE 14.9; a unit with no variables; a first line with a negative excess; a refusal: all computed.
+-- The printed page of SCOPE 14.9; a unit with no variables; a first line with a negative excess; a refusal; a sentence: all computed.
 use Prim.Native.Nat.{ℕ}
 use mathlib.Core.Path.{_≡_, refl}
 use mathlib.Core.List.{List, [], _∷_}
@@ -7,6 +7,7 @@ use Rattle.build.specs.Build.{Outcome, buildChosen}
 use Rattle.unit.specs.Samples.{S, nines}
 use Rattle.print.specs.Ascii.{ascii}
 use Rattle.print.specs.Print.{headLine, textOf, refusedText}
+use Rattle.print.specs.Sentence.{sentence}
 
 -- the text of what a build leaves
 abbrev textAfter : Outcome → List ℕ
@@ -22,7 +23,9 @@ pub record Table : Type 0 where
   pub below-zero : headLine (6 ∷ 0 ∷ 0 ∷ 0 ∷ 1 ∷ 1 ∷ 1 ∷ []) (negsuc 0) ≡ ascii "unit 6 0 0 0 1 1 1 -1\n"
   -- refusal 13, place 3
   pub refusal : refusedText 13 3 ≡ ascii "refused 13 3\n"
+  -- two numbers, the second of them twice; a letter past theirs
+  pub numbered : sentence (7 ∷ 40 ∷ []) (ascii "A of B, not B of C") ≡ ascii "7 of 40, not 40 of C"
 
 pub samples : Table
-unfolding buildChosen headLine textOf
-samples = record { whole = refl; alone = refl; below-zero = refl; refusal = refl }
+unfolding buildChosen headLine textOf sentence
+samples = record { whole = refl; alone = refl; below-zero = refl; refusal = refl; numbered = refl }

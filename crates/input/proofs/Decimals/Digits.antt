@@ -33,7 +33,7 @@ and-none true true = refl
 and-none true false = refl
 and-none false b = refl
 
-value-grows : (v : ℕ) (f : List ℕ) → v ≤ valueFrom v f
+pub value-grows : (v : ℕ) (f : List ℕ) → v ≤ valueFrom v f
 unfolding valueFrom
 value-grows v [] = omega arith
 value-grows v (b ∷ f) = omega (arith, value-grows (10 * v + (b - 48)) f)

@@ -1,0 +1,40 @@
+-- The sentence of a fault and that of a refusal, from their forms. Assumes nothing.
+use Prim.Native.Nat.{ℕ}
+use mathlib.Core.Path.{_≡_, refl, sym, ap, _∙_}
+use mathlib.Core.Bool.{true}
+use mathlib.Core.List.{List, [], _∷_}
+use borrow.Author.Tests.{ne-eqb, leb-true}
+use lib.Dec.{leb}
+use lib.ListN.{length}
+use Rattle.lists.specs.Members.{All}
+use Rattle.build.specs.declared.Built.{Built}
+use Rattle.print.specs.Print.{maxFields, fitted}
+use Rattle.print.specs.Sentence.{sentence, sentenceOf}
+use Rattle.print.proofs.Sentences.{sentence-few}
+use Rattle.why.specs.declared.scan.Fault.{Fault}
+use Rattle.why.specs.Why.{formIn, faultForms, longForm, faultText, builtForms, otherForm, vectorAt, firstEqual, builtText}
+
+-- a key that no entry has
+pub form-none : (fs : List (ℕ × List ℕ)) (other : List ℕ) (key : ℕ) → All (λ f. key ≡ f .0 → ⊥) fs → formIn fs other key ≡ other
+unfolding formIn
+form-none [] other key a = refl
+form-none (f ∷ fs) other key a = rw (ne-eqb key (f .0) (a .0), formIn) (form-none fs other key (a .1))
+
+-- a sentence with the form that was looked up
+said : (numbers out form found : List ℕ) → found ≡ form → leb (length form) maxFields ≡ true → sentenceOf form numbers out ≡ fitted (sentence numbers found) out
+said numbers out form found e l =
+    sym (sentence-few form numbers out (leb-true (length form) maxFields l)) ∙ ap (λ (x : List ℕ). fitted (sentence numbers x) out) (sym e)
+
+module _ (f : Fault) (out form : List ℕ) (short : leb (length form) maxFields ≡ true) where
+  pub fault-said : formIn faultForms longForm (f .cause) ≡ form → sentenceOf form (f .line ∷ f .column ∷ f .byte ∷ []) out ≡ fitted (faultText f) out
+  unfolding faultText
+  fault-said e = said (f .line ∷ f .column ∷ f .byte ∷ []) out form (formIn faultForms longForm (f .cause)) e short
+
+module _ (b : Built) (n degree cells : ℕ) (vs out form : List ℕ) (short : leb (length form) maxFields ≡ true) where
+  pub built-said : (v first : ℕ) → v ≡ vectorAt vs (b .place) → first ≡ firstEqual v vs → formIn builtForms otherForm (b .refusal) ≡ form
+      → sentenceOf form (b .refusal ∷ b .place ∷ n ∷ degree ∷ cells ∷ length vs ∷ v ∷ first ∷ []) out ≡ fitted (builtText b n degree cells vs) out
+  unfolding builtText
+  built-said v first p q e =
+      ap (λ (x : ℕ). sentenceOf form (b .refusal ∷ b .place ∷ n ∷ degree ∷ cells ∷ length vs ∷ v ∷ x ∷ []) out) q
+      ∙ ap (λ (x : ℕ). sentenceOf form (b .refusal ∷ b .place ∷ n ∷ degree ∷ cells ∷ length vs ∷ x ∷ firstEqual x vs ∷ []) out) p
+      ∙ said (b .refusal ∷ b .place ∷ n ∷ degree ∷ cells ∷ length vs ∷ vectorAt vs (b .place) ∷ firstEqual (vectorAt vs (b .place)) vs ∷ []) out form (formIn builtForms otherForm (b .refusal)) e short

@@ -1,0 +1,5 @@
+pub mod Fault
+pub mod Why
+pub mod Facts
+pub mod WhySamples
+pub mod Inner
