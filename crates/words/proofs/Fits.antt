@@ -18,8 +18,9 @@ use Rattle.answer.proofs.Fits.Page.{answer-fits}
 use Rattle.pack.proofs.Fits.{pack-fits}
 use Rattle.listing.proofs.Fits.{list-fits}
 use Rattle.find.proofs.Fits.{find-fits}
-use Rattle.words.specs.Words.{pageSize, opens, says, packWord, showWord, listWord, findWord, asksFile, ofUnit, ofReading, ofFile, wordsOf}
-use Rattle.words.proofs.Writing.{file-refused, file-read, words-none, words-pack, words-file, words-other}
+use Rattle.why.proofs.Fits.{why-fits}
+use Rattle.words.specs.Words.{pageSize, opens, says, packWord, whyWord, showWord, listWord, findWord, asksFile, ofUnit, ofReading, ofFile, wordsOf}
+use Rattle.words.proofs.Writing.{file-refused, file-read, words-none, words-pack, words-why, words-file, words-other}
 
 unit-fits : (given : List ℕ) (u : Record) (t : Tables) → Loaded u t → length (ofUnit given u t) ≤ pageSize
 unfolding ofUnit
@@ -52,10 +53,12 @@ file-fits given file = go (eqb (r .refusal) 0) refl
 
 -- of all words and texts
 pub words-fits : (given text : List ℕ) → length (wordsOf given text) ≤ pageSize
-words-fits given text = go (eqb (length given) 0) refl (says packWord given) refl (asksFile given) refl
+words-fits given text = go (eqb (length given) 0) refl (says packWord given) refl (says whyWord given) refl (asksFile given) refl
   where
-    go : (a : Bool) → eqb (length given) 0 ≡ a → (b : Bool) → says packWord given ≡ b → (c : Bool) → asksFile given ≡ c → length (wordsOf given text) ≤ pageSize
-    go true p b q c r = omega (arith, answer-fits text, ap length (words-none given text (eqb-true (length given) 0 p)))
-    go false p true q c r = omega (arith, pack-fits text, ap length (words-pack given text (eqb-false (length given) 0 p) q))
-    go false p false q true r = omega (arith, file-fits given text, ap length (words-file given text (eqb-false (length given) 0 p) q r))
-    go false p false q false r = omega (arith, ap length (words-other given text (eqb-false (length given) 0 p) q r))
+    go : (a : Bool) → eqb (length given) 0 ≡ a → (b : Bool) → says packWord given ≡ b → (w : Bool) → says whyWord given ≡ w → (c : Bool) → asksFile given ≡ c
+        → length (wordsOf given text) ≤ pageSize
+    go true p b q w v c r = omega (arith, answer-fits text, ap length (words-none given text (eqb-true (length given) 0 p)))
+    go false p true q w v c r = omega (arith, pack-fits text, ap length (words-pack given text (eqb-false (length given) 0 p) q))
+    go false p false q true v c r = omega (arith, why-fits text, ap length (words-why given text (eqb-false (length given) 0 p) q v))
+    go false p false q false v true r = omega (arith, file-fits given text, ap length (words-file given text (eqb-false (length given) 0 p) q v r))
+    go false p false q false v false r = omega (arith, ap length (words-other given text (eqb-false (length given) 0 p) q v r))

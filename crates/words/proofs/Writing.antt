@@ -20,7 +20,8 @@ use Rattle.answer.specs.Answer.{inputText, answerOf}
 use Rattle.pack.specs.Pack.{packOf}
 use Rattle.listing.specs.Listing.{listText}
 use Rattle.find.specs.Find.{findText}
-use Rattle.words.specs.Words.{opens, says, packWord, showWord, listWord, findWord, asksFile, ofUnit, ofReading, ofFile, otherwise, wordsOf}
+use Rattle.why.specs.Why.{whyOf}
+use Rattle.words.specs.Words.{opens, says, packWord, whyWord, showWord, listWord, findWord, asksFile, ofUnit, ofReading, ofFile, otherwise, wordsOf}
 use Rattle.words.specs.Inner.{unitPrinted}
 use Rattle.words.proofs.Tests.{opens-long, asks-find}
 
@@ -94,14 +95,19 @@ module _ (given text : List ℕ) where
     words-pack h = rw (ne-eqb (length given) 0 some, h, wordsOf)
 
     module _ (no-pack : says packWord given ≡ false) where
-      left : otherwise given text ≡ wordsOf given text
+      pub words-why : says whyWord given ≡ true → whyOf text ≡ wordsOf given text
       unfolding wordsOf
-      left = rw (ne-eqb (length given) 0 some, no-pack, wordsOf)
+      words-why h = rw (ne-eqb (length given) 0 some, no-pack, h, wordsOf)
 
-      pub words-file : asksFile given ≡ true → ofFile given text ≡ wordsOf given text
-      unfolding otherwise
-      words-file h = let q : ofFile given text ≡ otherwise given text = rw (h, otherwise) in q ∙ left
+      module _ (no-why : says whyWord given ≡ false) where
+        left : otherwise given text ≡ wordsOf given text
+        unfolding wordsOf
+        left = rw (ne-eqb (length given) 0 some, no-pack, no-why, wordsOf)
 
-      pub words-other : asksFile given ≡ false → inputText ≡ wordsOf given text
-      unfolding otherwise
-      words-other h = let q : inputText ≡ otherwise given text = rw (h, otherwise) in q ∙ left
+        pub words-file : asksFile given ≡ true → ofFile given text ≡ wordsOf given text
+        unfolding otherwise
+        words-file h = let q : ofFile given text ≡ otherwise given text = rw (h, otherwise) in q ∙ left
+
+        pub words-other : asksFile given ≡ false → inputText ≡ wordsOf given text
+        unfolding otherwise
+        words-other h = let q : inputText ≡ otherwise given text = rw (h, otherwise) in q ∙ left

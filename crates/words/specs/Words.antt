@@ -15,6 +15,7 @@ use Rattle.answer.specs.Answer.{inputText, answerOf}
 use Rattle.pack.specs.Pack.{packOf}
 use Rattle.listing.specs.Listing.{listText}
 use Rattle.find.specs.Find.{findText}
+use Rattle.why.specs.Why.{whyOf}
 
 -- bytes that everything written fits into
 abbrev pub pageSize : ℕ
@@ -32,6 +33,9 @@ says word bytes = eqb (length bytes) (length word) && opens word bytes
 
 abbrev pub packWord : List ℕ
 packWord = ascii "pack\n"
+
+abbrev pub whyWord : List ℕ
+whyWord = ascii "why\n"
 
 abbrev pub showWord : List ℕ
 showWord = ascii "show\n"
@@ -74,8 +78,11 @@ unfoldable pub otherwise : List ℕ → List ℕ → List ℕ
 unfolding asksFile ofFile
 otherwise given text = elim (asksFile given) [ true ↦ ofFile given text | false ↦ inputText ]
 
--- no word: the unit of a list printed; `pack`: its file
+-- no word: the unit of a list printed; `pack`: its file; `why`: what is wrong with it
 unfoldable pub wordsOf : List ℕ → List ℕ → List ℕ
-unfolding answerOf packOf opens otherwise
+unfolding answerOf packOf whyOf opens otherwise
 wordsOf given text =
-    elim (eqb (length given) 0) [ true ↦ answerOf text | false ↦ elim (says packWord given) [ true ↦ packOf text | false ↦ otherwise given text ] ]
+    elim (eqb (length given) 0) [
+      | true ↦ answerOf text
+      | false ↦ elim (says packWord given) [ true ↦ packOf text | false ↦ elim (says whyWord given) [ true ↦ whyOf text | false ↦ otherwise given text ] ]
+    ]

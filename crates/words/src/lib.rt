@@ -96,6 +96,9 @@ pub fn words(given: &[u8], text: &[u8], out: &mut [u8]) -> usize
     if says(b"pack\n", given) {
         return pack::pack(text, out);
     }
+    if says(b"why\n", given) {
+        return why::why(text, out);
+    }
     if !asks_file(given) {
         return print::text(b"input\n", out);
     }

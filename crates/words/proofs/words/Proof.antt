@@ -4,7 +4,7 @@ use mathlib.Core.Path.{sym, ap, _∙_}
 use mathlib.Core.List.{List}
 use borrow.Author.Tests.{not-true, not-false}
 use Rattle.print.specs.Print.{fitted}
-use Rattle.words.proofs.Writing.{words-none, words-pack, words-file, words-other}
+use Rattle.words.proofs.Writing.{words-none, words-pack, words-why, words-file, words-other}
 use borrow.Author.Needs.{needs}
 use Rattle.words.proofs.words.Statement.{statement}
 use Rattle.words.proofs.words.Tie as tie
@@ -22,17 +22,23 @@ returns-2 c =
 returns-3 : tie.Need-returns-3
 returns-3 c =
     let s = c .before .before .before .before .before .before .before .before .before .before .before .before .before .before in
-    c .before .before .text .ensures
-    ∙ ap (λ (x : List ℕ). fitted x (s .args .out .now)) (words-other (s .args .given .now) (s .args .text .now) (c .before .before .before .before .before .before .before .before .before .before .if1 .left) (sym (c .before .before .before .before .before .before .before .before .says .ensures) ∙ c .before .before .before .before .before .before .before .if2 .left) (sym (c .before .before .before .before .before .before .asks-file .ensures) ∙ not-true _ (c .before .before .before .before .before .if3 .taken)))
-
-from-file-requires : tie.Need-from-file-requires
-from-file-requires c κs = sym (c .before .before .asks-file .ensures) ∙ not-false _ (c .before .if3 .left)
+    c .before .before .why .ensures
+    ∙ ap (λ (x : List ℕ). fitted x (s .args .out .now)) (words-why (s .args .given .now) (s .args .text .now) (c .before .before .before .before .before .before .before .before .before .before .if1 .left) (sym (c .before .before .before .before .before .before .before .before .says .ensures) ∙ c .before .before .before .before .before .before .before .if2 .left) (sym (c .before .before .before .before .before .says2 .ensures) ∙ c .before .before .before .before .if3 .taken))
 
 returns-4 : tie.Need-returns-4
 returns-4 c =
-    let s = c .before .before .before .before .before .before .before .before .before .before .before .before .before in
+    let s = c .before .before .before .before .before .before .before .before .before .before .before .before .before .before .before .before .before in
+    c .before .before .text .ensures
+    ∙ ap (λ (x : List ℕ). fitted x (s .args .out .now)) (words-other (s .args .given .now) (s .args .text .now) (c .before .before .before .before .before .before .before .before .before .before .before .before .before .if1 .left) (sym (c .before .before .before .before .before .before .before .before .before .before .before .says .ensures) ∙ c .before .before .before .before .before .before .before .before .before .before .if2 .left) (sym (c .before .before .before .before .before .before .before .before .says2 .ensures) ∙ c .before .before .before .before .before .before .before .if3 .left) (sym (c .before .before .before .before .before .before .asks-file .ensures) ∙ not-true _ (c .before .before .before .before .before .if4 .taken)))
+
+from-file-requires : tie.Need-from-file-requires
+from-file-requires c κs = sym (c .before .before .asks-file .ensures) ∙ not-false _ (c .before .if4 .left)
+
+returns-5 : tie.Need-returns-5
+returns-5 c =
+    let s = c .before .before .before .before .before .before .before .before .before .before .before .before .before .before .before .before in
     c .before .before .from-file .ensures
-    ∙ ap (λ (x : List ℕ). fitted x (s .args .out .now)) (words-file (s .args .given .now) (s .args .text .now) (c .before .before .before .before .before .before .before .before .before .if1 .left) (sym (c .before .before .before .before .before .before .before .says .ensures) ∙ c .before .before .before .before .before .before .if2 .left) (sym (c .before .before .before .before .before .asks-file .ensures) ∙ not-false _ (c .before .before .before .before .if3 .left)))
+    ∙ ap (λ (x : List ℕ). fitted x (s .args .out .now)) (words-file (s .args .given .now) (s .args .text .now) (c .before .before .before .before .before .before .before .before .before .before .before .before .if1 .left) (sym (c .before .before .before .before .before .before .before .before .before .before .says .ensures) ∙ c .before .before .before .before .before .before .before .before .before .if2 .left) (sym (c .before .before .before .before .before .before .before .says2 .ensures) ∙ c .before .before .before .before .before .before .if3 .left) (sym (c .before .before .before .before .before .asks-file .ensures) ∙ not-false _ (c .before .before .before .before .if4 .left)))
 
 pub words-spec : {M : Type 1} → statement M
 words-spec =
@@ -46,11 +52,16 @@ words-spec =
     (λ c κs. search needs)
     (λ c. search needs)
     returns-2
-    (λ c κs. search needs)
     (λ c. search needs)
+    (λ c κs. search needs)
     (λ c κs. search needs)
     (λ c. search needs)
     returns-3
+    (λ c κs. search needs)
+    (λ c. search needs)
+    (λ c κs. search needs)
+    (λ c. search needs)
+    returns-4
     from-file-requires
     (λ c. search needs)
-    returns-4)
+    returns-5)
