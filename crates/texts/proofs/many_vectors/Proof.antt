@@ -9,10 +9,10 @@ use Rattle.texts.proofs.many_vectors.Statement.{statement}
 use Rattle.texts.proofs.many_vectors.Tie as tie
 
 abbrev Inv-loop : tie.InvT-loop
-Inv-loop text₀ i₀ text i = (i ≤ 1028) × (length text ≡ 2055)
+Inv-loop given text₀ i₀ text i = (i ≤ 1028) × (length text ≡ 2055)
 
 abbrev μ-loop : tie.MeasureT-loop
-μ-loop text₀ i₀ text i = 1028 - i
+μ-loop given text₀ i₀ text i = 1028 - i
 
 loop-holds : tie.Need-loop-holds Inv-loop μ-loop
 loop-holds c = (omega arith, refl)
@@ -23,8 +23,8 @@ loop-again c = (omega arith, length-set (c .before .loop .text) (2 * c .before .
 array-share-prefix-text : tie.Need-array-share-prefix-text Inv-loop μ-loop
 array-share-prefix-text c = search needs
 
-slice-aggregate-list-2 : tie.Need-slice-aggregate-list-2 Inv-loop μ-loop
-slice-aggregate-list-2 c = sym (length-take-le 2053 (c .before .before .before .before .loop .text) (array-share-prefix-text (c .before)))
+slice-aggregate-answer-2 : tie.Need-slice-aggregate-answer-2 Inv-loop μ-loop
+slice-aggregate-answer-2 c = sym (length-take-le 2053 (c .before .before .before .before .loop .text) (array-share-prefix-text (c .before)))
 
 pub many-vectors-spec : {M : Type 1} → statement M
 many-vectors-spec =
@@ -41,6 +41,6 @@ many-vectors-spec =
     (λ c. search needs)
     (λ c κs. search needs)
     array-share-prefix-text
-    slice-aggregate-list-2
+    slice-aggregate-answer-2
     (λ c κs. search needs)
     (λ c. search needs))
