@@ -19,6 +19,19 @@ payloadAt = 4
 abbrev pub checkAt : ℕ
 checkAt = 508
 
+-- SCOPE 20.7: the bytes of a short word and of a long one; how many of either a payload holds
+abbrev pub shortWord : ℕ
+shortWord = 2
+
+abbrev pub longWord : ℕ
+longWord = 8
+
+abbrev pub shortWords : ℕ
+shortWords = 252
+
+abbrev pub longWords : ℕ
+longWords = 63
+
 -- SCOPE 20.1: kind, version, and the block's number in two bytes
 unfoldable pub openingOf : Opening → List ℕ
 unfolding littleOf

@@ -1,13 +1,20 @@
 // Blocks of 512 bytes: an opening of four bytes, a payload, and a check over both.
 ghost use mathlib.Core.Path.{_≡_};
 ghost use mathlib.Core.List.{_++_};
-ghost use Prim.Native.Nat.{_+_, _-_, _*_, _%_, _≤_, _<_, min};
+ghost use Prim.Native.Nat.{_+_, _-_, _*_, _%_, _≤_, _<_};
 ghost use lib.ListN.{length, take, drop, replicate};
 ghost use lib.Seq.{sets};
-ghost use Rattle.block.specs.Bytes.{littleOf, wordsOf, numberAt};
-ghost use Rattle.block.specs.Block.{blockSize, checkAt, modulus, sumOf, weigh, openingOf, sealed as Block·sealed, blockOf, rightCheck, inBlock};
-ghost use Rattle.block.specs.Look.{blankFrom, laidOut, wordsOver};
+ghost use Rattle.block.specs.Bytes.{littleOf, wordsOf};
+ghost use Rattle.block.specs.Block.{blockSize, checkAt, shortWord, longWord, shortWords, longWords, modulus, sumOf, weigh, openingOf, sealed as Block·sealed, blockOf, inBlock};
 ghost use Rattle.block.specs.Inner.Columns.{lanes, halfSize, Columns, Added};
+
+mod read;
+
+pub use read::laid;
+pub use read::number;
+pub use read::right;
+pub use read::words16;
+pub use read::words64;
 
 // The bytes of a block, and where its payload and its check begin.
 pub const SIZE: usize = 512;
@@ -199,7 +206,7 @@ pub fn sealed(block: [u8; SIZE]) -> [u8; SIZE]
 
 // Writes the block of the first words, as many as it holds; a slice that is not as long as a block stays as it is.
 pub fn fill16(opening: Opening, words: &[u16], block: &mut [u8])
-    ensures { λ _. ⌜ now (block .exit) ≡ inBlock (blockOf opening (wordsOf 2 (take 252 (now (words .entry))))) (now (block .entry)) ⌝ }
+    ensures { λ _. ⌜ now (block .exit) ≡ inBlock (blockOf opening (wordsOf shortWord (take shortWords (now (words .entry))))) (now (block .entry)) ⌝ }
 {
     if block.len() != SIZE {
         return;
@@ -216,7 +223,7 @@ pub fn fill16(opening: Opening, words: &[u16], block: &mut [u8])
 }
 
 pub fn fill64(opening: Opening, words: &[u64], block: &mut [u8])
-    ensures { λ _. ⌜ now (block .exit) ≡ inBlock (blockOf opening (wordsOf 8 (take 63 (now (words .entry))))) (now (block .entry)) ⌝ }
+    ensures { λ _. ⌜ now (block .exit) ≡ inBlock (blockOf opening (wordsOf longWord (take longWords (now (words .entry))))) (now (block .entry)) ⌝ }
 {
     if block.len() != SIZE {
         return;
@@ -230,108 +237,4 @@ pub fn fill64(opening: Opening, words: &[u64], block: &mut [u8])
     }
     clear(block, PAYLOAD_AT + 8 * last);
     seal(block);
-}
-
-// The number that the bytes at a place make, as many as size says.
-fn word(bytes: &[u8], at: usize, size: usize) -> u64
-    requires { ⌜ (at + size ≤ length (now bytes)) × (size ≤ 8) ⌝ }
-    ensures { λ r. ⌜ r ≡ numberAt size at (now (bytes .entry)) ⌝ }
-{
-    let mut number: u64 = 0;
-    let mut i = at + size;
-    while at < i {
-        i -= 1;
-        number = 256 * number + bytes[i] as u64;
-    }
-    number
-}
-
-// The number that the bytes at a place make, as many as size says, eight at most; those that are not there count as 0.
-pub fn number(bytes: &[u8], at: usize, size: usize) -> u64
-    ensures { λ r. ⌜ r ≡ numberAt (min size 8) at (now (bytes .entry)) ⌝ }
-{
-    if bytes.len() < at {
-        return 0;
-    }
-    let most = lists::least(size, 8);
-    word(bytes, at, lists::least(most, bytes.len() - at))
-}
-
-// Whether a block ends in the check of its other bytes; no slice of another length does.
-pub fn right(block: &[u8]) -> bool
-    ensures { λ r. ⌜ r ≡ rightCheck (now (block .entry)) ⌝ }
-{
-    if block.len() != SIZE {
-        return false;
-    }
-    let s = sums(block);
-    if word(block, CHECK_AT, 2) != s.plain as u64 {
-        return false;
-    }
-    word(block, CHECK_AT + 2, 2) == s.weighed as u64
-}
-
-// Whether the bytes from a place up to the check are 0.
-fn blank(block: &[u8], at: usize) -> bool
-    ensures { λ r. ⌜ r ≡ blankFrom at (now (block .entry)) ⌝ }
-{
-    let end = lists::least(CHECK_AT, block.len());
-    let mut s: u32 = 0;
-    let mut i = at;
-    while i < end {
-        s += block[i] as u32;
-        i += 1;
-    }
-    s == 0
-}
-
-// Whether a block has this opening, and its payload is 0 from a place on.
-pub fn laid(opening: Opening, at: usize, block: &[u8]) -> bool
-    ensures { λ r. ⌜ r ≡ laidOut opening at (now (block .entry)) ⌝ }
-{
-    if block.len() < PAYLOAD_AT {
-        return false;
-    }
-    if block[0] != opening.kind {
-        return false;
-    }
-    if block[1] != opening.version {
-        return false;
-    }
-    if block[2] != (opening.number % 256) as u8 {
-        return false;
-    }
-    if block[3] != (opening.number / 256 % 256) as u8 {
-        return false;
-    }
-    blank(block, at)
-}
-
-// Takes the first words of a block, as many as are lent and it holds; a slice that is not as long as a block gives none.
-pub fn words16(block: &[u8], words: &mut [u16])
-    ensures { λ _. ⌜ now (words .exit) ≡ wordsOver 2 252 (now (block .entry)) (now (words .entry)) ⌝ }
-{
-    if block.len() != SIZE {
-        return;
-    }
-    let last = lists::least(WORDS16, words.len());
-    let mut i = 0;
-    while i < last {
-        words[i] = word(block, PAYLOAD_AT + 2 * i, 2) as u16;
-        i += 1;
-    }
-}
-
-pub fn words64(block: &[u8], words: &mut [u64])
-    ensures { λ _. ⌜ now (words .exit) ≡ wordsOver 8 63 (now (block .entry)) (now (words .entry)) ⌝ }
-{
-    if block.len() != SIZE {
-        return;
-    }
-    let last = lists::least(WORDS64, words.len());
-    let mut i = 0;
-    while i < last {
-        words[i] = word(block, PAYLOAD_AT + 8 * i, 8);
-        i += 1;
-    }
 }

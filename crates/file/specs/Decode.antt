@@ -10,8 +10,8 @@ use Rattle.record.specs.declared.Record.{Record}
 use Rattle.record.specs.Record.{recordOf}
 use Rattle.record.specs.Tables.{Tables}
 use Rattle.block.specs.Bytes.{numberAt, wordsAt}
-use Rattle.block.specs.Block.{blockSize, payloadAt}
-use Rattle.file.specs.Layout.{nAt, pAt, n1At, kAt, cellsAt, triesAt, variablesAt, shortWord, longWord, shortWords, longWords}
+use Rattle.block.specs.Block.{blockSize, payloadAt, shortWord, longWord, shortWords, longWords}
+use Rattle.file.specs.Layout.{nAt, pAt, n1At, kAt, cellsAt, triesAt, variablesAt}
 use Rattle.file.specs.File.{blocksFor, rowsIn, wordsIn, hFirst, gFirst, auxFirst}
 
 -- a variable of two bytes

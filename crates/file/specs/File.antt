@@ -10,8 +10,8 @@ use Rattle.record.specs.Record.{kindsIn}
 use Rattle.record.specs.Tables.{Tables}
 use Rattle.block.specs.declared.Opening.{Opening}
 use Rattle.block.specs.Bytes.{littleOf, wordsOf}
-use Rattle.block.specs.Block.{padded, blockSize, blockOf}
-use Rattle.file.specs.Layout.{headKind, hKind, gKind, auxKind, version, letters, shortWord, longWord, shortWords, longWords}
+use Rattle.block.specs.Block.{padded, blockSize, blockOf, shortWord, longWord, shortWords, longWords}
+use Rattle.file.specs.Layout.{headKind, hKind, gKind, auxKind, version, letters}
 
 -- SCOPE 20.1: how block number i begins
 abbrev pub opening : ℕ → ℕ → Opening

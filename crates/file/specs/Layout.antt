@@ -51,16 +51,3 @@ variablesAt = 19
 -- the first byte that no field has
 abbrev pub freeAt : ℕ
 freeAt = 67
-
--- bytes of a word of H and G, of a word of AUX; words of either that a block holds
-abbrev pub shortWord : ℕ
-shortWord = 2
-
-abbrev pub longWord : ℕ
-longWord = 8
-
-abbrev pub shortWords : ℕ
-shortWords = 252
-
-abbrev pub longWords : ℕ
-longWords = 63

@@ -1,7 +1,7 @@
 -- Where the tables lie in a file.
 use Prim.Native.Nat.{ℕ, _+_}
+use Rattle.block.specs.Block.{shortWords, longWords}
 use Rattle.file.specs.declared.layout.Starts.{Starts}
-use Rattle.file.specs.Layout.{shortWords, longWords}
 use Rattle.file.specs.File.{blocksFor, hFirst}
 
 -- SCOPE 20.7: the first blocks of G and AUX, and the block past the last, with so many words of H, G and AUX

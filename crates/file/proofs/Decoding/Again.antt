@@ -20,10 +20,10 @@ use Rattle.record.specs.Tables.{Tables}
 use Rattle.record.specs.Formed.{inBounds, rightInputs, longEnough, wellFormed, sound}
 use Rattle.record.proofs.Soundness.{Sound, sound-says}
 use Rattle.block.specs.Bytes.{littleOf, wordsOf}
-use Rattle.block.specs.Block.{padded, blockOf}
+use Rattle.block.specs.Block.{padded, blockOf, shortWord, longWord, shortWords, longWords}
 use Rattle.block.proofs.Reading.Numbers.{little-mod}
 use Rattle.block.proofs.Reading.Words.{lowWords, words-low}
-use Rattle.file.specs.Layout.{headKind, hKind, gKind, auxKind, shortWord, longWord, shortWords, longWords}
+use Rattle.file.specs.Layout.{headKind, hKind, gKind, auxKind}
 use Rattle.file.specs.File.{opening, variablesBytes, headOf, blocksFor, stack, tableBlock, tableOf, rowsIn, wordsIn, hFirst, gFirst, auxFirst, fileWith, fileOf}
 use Rattle.file.specs.Decode.{recordIn, tablesIn}
 use Rattle.file.specs.Facts.{SameRecord, carriedRecord, carriedTables, ReadsBack}

@@ -17,10 +17,10 @@ use Rattle.record.specs.declared.Record.{Record}
 use Rattle.record.specs.Record.{kindsIn}
 use Rattle.block.specs.declared.Opening.{Opening}
 use Rattle.block.specs.Bytes.{littleOf, valueOf, numberAt}
-use Rattle.block.specs.Block.{openingOf, checkOf}
+use Rattle.block.specs.Block.{openingOf, checkOf, shortWord, longWord, shortWords, longWords}
 use Rattle.block.proofs.Reading.Numbers.{value-little}
 use Rattle.block.proofs.Reading.Blocks.{bodyOf, unused, block-parts}
-use Rattle.file.specs.Layout.{headKind, hKind, gKind, auxKind, shortWord, longWord, shortWords, longWords, nAt, pAt, n1At, kAt, cellsAt, triesAt, variablesAt}
+use Rattle.file.specs.Layout.{headKind, hKind, gKind, auxKind, nAt, pAt, n1At, kAt, cellsAt, triesAt, variablesAt}
 use Rattle.file.specs.File.{opening, variablesBytes, headPayload, headOf, tableOf, hFirst, gFirst, auxFirst, fileWith}
 use Rattle.file.specs.Decode.{kindOf, kindsFrom}
 use Rattle.file.proofs.Laying.Heads.{fieldsOf, fields-are}

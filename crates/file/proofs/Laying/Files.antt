@@ -8,9 +8,9 @@ use lib.Seq.{sets, take-length}
 use Rattle.vectors.specs.Bounds.{maxVariables}
 use Rattle.record.specs.declared.Record.{Record}
 use Rattle.record.specs.Record.{kindsIn}
-use Rattle.block.specs.Block.{blockSize, payloadAt, checkAt, padded}
+use Rattle.block.specs.Block.{blockSize, payloadAt, checkAt, padded, shortWord, longWord, shortWords, longWords}
 use Rattle.block.proofs.Laying.Words.{front, behind, length-padded, length-block}
-use Rattle.file.specs.Layout.{headKind, hKind, gKind, auxKind, shortWord, longWord, shortWords, longWords}
+use Rattle.file.specs.Layout.{headKind, hKind, gKind, auxKind}
 use Rattle.file.specs.File.{opening, variablesBytes, headPayload, headOf, blocksFor, tableBlock, tableOf, rowsIn, wordsIn, hFirst, gFirst, auxFirst, sizeOf, fileWith}
 use Rattle.file.proofs.Laying.Heads.{fieldsOf, fields-are, length-variables}
 use Rattle.file.proofs.Laying.Stacks.{length-table-block, length-stack}

@@ -11,8 +11,7 @@ use Rattle.record.specs.declared.Record.{Record}
 use Rattle.record.specs.Tables.{Tables, over}
 use Rattle.record.specs.Formed.{longEnough}
 use Rattle.block.specs.Bytes.{wordsAt}
-use Rattle.block.specs.Block.{blockSize, payloadAt}
-use Rattle.file.specs.Layout.{shortWord, longWord, shortWords, longWords}
+use Rattle.block.specs.Block.{blockSize, payloadAt, shortWord, longWord, shortWords, longWords}
 use Rattle.file.specs.File.{blocksFor, rowsIn, wordsIn, hFirst, gFirst, auxFirst, fileWith, fileOf}
 use Rattle.file.specs.Decode.{tableFrom, tableIn, recordIn, tablesIn}
 use Rattle.file.specs.Read.{Reading, loadedRead, readOf}

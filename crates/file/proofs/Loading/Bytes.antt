@@ -20,9 +20,9 @@ use Rattle.record.specs.Formed.{sound}
 use Rattle.record.proofs.Formed.{well-formed-facts}
 use Rattle.record.proofs.Soundness.{sound-says}
 use Rattle.block.specs.Bytes.{littleOf, wordsOf}
-use Rattle.block.specs.Block.{checkAt, modulus, sumOf, weigh, openingOf, padded, checkOf, blockOf}
+use Rattle.block.specs.Block.{checkAt, modulus, sumOf, weigh, openingOf, padded, checkOf, blockOf, shortWord, longWord, shortWords, longWords}
 use Rattle.block.proofs.Reading.Numbers.{Bytes, little-bytes}
-use Rattle.file.specs.Layout.{headKind, hKind, gKind, auxKind, shortWord, longWord, shortWords, longWords, version, letters}
+use Rattle.file.specs.Layout.{headKind, hKind, gKind, auxKind, version, letters}
 use Rattle.file.specs.File.{opening, variableBytes, variablesBytes, headPayload, headOf, blocksFor, stack, tableBlock, tableOf, rowsIn, wordsIn, hFirst, gFirst, auxFirst, fileWith, fileOf}
 
 join : (a b : List ℕ) → Bytes a → Bytes b → Bytes (a ++ b)

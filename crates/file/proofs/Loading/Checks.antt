@@ -16,11 +16,11 @@ use Rattle.record.specs.Record.{kindsIn}
 use Rattle.record.specs.Tables.{Tables}
 use Rattle.record.specs.Formed.{sound}
 use Rattle.block.specs.declared.Opening.{Opening}
-use Rattle.block.specs.Block.{blockSize, payloadAt, checkAt, checkOf, blockOf, same, rightCheck}
+use Rattle.block.specs.Block.{blockSize, payloadAt, checkAt, checkOf, blockOf, same, rightCheck, shortWord, longWord, shortWords, longWords}
 use Rattle.block.specs.Bytes.{wordsOf}
 use Rattle.block.proofs.Laying.Words.{length-words}
 use Rattle.block.proofs.Reading.Blocks.{block-check}
-use Rattle.file.specs.Layout.{headKind, hKind, gKind, auxKind, shortWord, longWord, shortWords, longWords}
+use Rattle.file.specs.Layout.{headKind, hKind, gKind, auxKind}
 use Rattle.file.specs.File.{opening, headPayload, headOf, blocksFor, stack, tableBlock, tableOf, rowsIn, wordsIn, hFirst, gFirst, auxFirst, blocksIn, sizeOf, fileWith, fileOf}
 use Rattle.file.specs.Read.{rightChecks}
 use Rattle.file.proofs.Laying.Stacks.{length-table-block, length-stack}

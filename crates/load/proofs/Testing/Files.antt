@@ -18,10 +18,10 @@ use Rattle.record.specs.Formed.{longEnough, rightRecord, sound}
 use Rattle.record.proofs.Formed.{in-bounds}
 use Rattle.record.proofs.Soundness.{Right, right-says, right-sound, unright-sound}
 use Rattle.block.specs.Bytes.{numberAt}
-use Rattle.block.specs.Block.{blockSize, same, rightCheck}
+use Rattle.block.specs.Block.{blockSize, same, rightCheck, shortWord, longWord, shortWords, longWords}
 use Rattle.block.proofs.Reading.Same.{same-other, same-append}
 use Rattle.block.proofs.Reading.Numbers.{Bytes}
-use Rattle.file.specs.Layout.{hKind, gKind, auxKind, pAt, shortWord, longWord, shortWords, longWords}
+use Rattle.file.specs.Layout.{hKind, gKind, auxKind, pAt}
 use Rattle.file.specs.File.{headOf, blocksFor, stack, tableBlock, tableOf, rowsIn, wordsIn, hFirst, gFirst, auxFirst, sizeOf, fileWith, fileOf}
 use Rattle.file.specs.Decode.{recordIn, tableIn, tablesIn}
 use Rattle.file.specs.Read.{rightChecks, isFile}

@@ -5,9 +5,9 @@ use mathlib.Core.List.{List}
 use lib.Dec.{eqb}
 use lib.ListN.{length, take, drop}
 use Rattle.record.specs.declared.Record.{Record}
-use Rattle.block.specs.Block.{blockSize, payloadAt, checkAt, same}
+use Rattle.block.specs.Block.{blockSize, payloadAt, checkAt, same, shortWord, longWord, shortWords, longWords}
 use Rattle.block.specs.Look.{laidOut}
-use Rattle.file.specs.Layout.{headKind, hKind, gKind, auxKind, letters, lettersAt, variablesAt, shortWord, longWord, shortWords, longWords}
+use Rattle.file.specs.Layout.{headKind, hKind, gKind, auxKind, letters, lettersAt, variablesAt}
 use Rattle.file.specs.File.{opening, blocksFor, rowsIn, wordsIn, hFirst, gFirst, auxFirst, sizeOf}
 
 -- block i

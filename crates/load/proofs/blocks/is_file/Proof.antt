@@ -14,7 +14,8 @@ use Rattle.record.specs.Inner.Formed.{InBounds}
 use Rattle.record.specs.Formed.{rightRecord}
 use Rattle.record.proofs.Formed.{in-bounds}
 use Rattle.record.proofs.Soundness.{right-says}
-use Rattle.file.specs.Layout.{hKind, gKind, auxKind, shortWord, longWords}
+use Rattle.block.specs.Block.{shortWord, longWords}
+use Rattle.file.specs.Layout.{hKind, gKind, auxKind}
 use Rattle.file.specs.File.{blocksFor, rowsIn, wordsIn, hFirst, gFirst, auxFirst, blocksIn, sizeOf}
 use Rattle.file.specs.Read.{isFile}
 use Rattle.file.specs.declared.layout.Starts.{Starts}

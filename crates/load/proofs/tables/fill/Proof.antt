@@ -17,8 +17,8 @@ use Rattle.vectors.specs.Bounds.{maxInputs}
 use Rattle.record.specs.Tables.{lent}
 use Rattle.record.specs.Inner.Formed.{InBounds}
 use Rattle.record.proofs.Formed.{in-bounds}
+use Rattle.block.specs.Block.{shortWord, longWord, shortWords, longWords}
 use Rattle.file.specs.declared.layout.Starts.{Starts}
-use Rattle.file.specs.Layout.{shortWord, longWord, shortWords, longWords}
 use Rattle.file.specs.File.{rowsIn, wordsIn, hFirst, gFirst, auxFirst}
 use Rattle.file.specs.Decode.{tableIn, tablesIn}
 use Rattle.load.proofs.Filling.{table-over}

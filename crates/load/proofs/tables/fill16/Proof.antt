@@ -3,8 +3,7 @@ use Prim.Native.Nat.{_-_, _*_}
 use native.Mathlib.Omega.{arith}
 use lib.ListN.{length}
 use borrow.Author.Needs.{needs}
-use Rattle.block.specs.Block.{blockSize}
-use Rattle.file.specs.Layout.{shortWord, shortWords}
+use Rattle.block.specs.Block.{blockSize, shortWord, shortWords}
 use Rattle.load.proofs.Filling.{Filling, filling-none, filling-more, filling-end, block-filled}
 use Rattle.load.proofs.tables.fill16.Statement.{statement}
 use Rattle.load.proofs.tables.fill16.Tie as tie

@@ -1,10 +1,10 @@
--- `block::number` meets its contract. Assumes nothing.
+-- `block::read::number` meets its contract. Assumes nothing.
 use native.Mathlib.Omega.{arith}
 use mathlib.Core.Path.{_∙_}
 use borrow.Author.Needs.{needs}
 use Rattle.block.proofs.Reading.Places.{number-short, number-none}
-use Rattle.block.proofs.number.Statement.{statement}
-use Rattle.block.proofs.number.Tie as tie
+use Rattle.block.proofs.read.number.Statement.{statement}
+use Rattle.block.proofs.read.number.Tie as tie
 
 returns : tie.Need-returns
 returns c = number-none _ _ _ (c .if1 .taken)

@@ -1,11 +1,11 @@
--- `block::word` meets its contract. Assumes nothing.
+-- `block::read::word` meets its contract. Assumes nothing.
 use Prim.Native.Nat.{_-_}
 use native.Mathlib.Omega.{arith}
 use mathlib.Core.Path.{refl}
 use borrow.Author.Needs.{needs}
 use Rattle.block.proofs.Reading.Places.{Reads, reads-none, reads-fit, reads-more, reads-end}
-use Rattle.block.proofs.word.Statement.{statement}
-use Rattle.block.proofs.word.Tie as tie
+use Rattle.block.proofs.read.word.Statement.{statement}
+use Rattle.block.proofs.read.word.Tie as tie
 
 abbrev Inv-loop : tie.InvT-loop
 Inv-loop bytes at size number₀ i₀ number i = Reads at size bytes number i

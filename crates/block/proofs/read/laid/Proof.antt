@@ -1,11 +1,11 @@
--- `block::laid` meets its contract. Assumes nothing.
+-- `block::read::laid` meets its contract. Assumes nothing.
 use native.Mathlib.Omega.{arith}
 use mathlib.Core.Path.{sym, _∙_}
 use borrow.Author.Tests.{eq-eqb, ne-eqb}
 use borrow.Author.Needs.{needs}
 use Rattle.block.proofs.Reading.Looks.{laid-short, laid-is}
-use Rattle.block.proofs.laid.Statement.{statement}
-use Rattle.block.proofs.laid.Tie as tie
+use Rattle.block.proofs.read.laid.Statement.{statement}
+use Rattle.block.proofs.read.laid.Tie as tie
 
 returns : tie.Need-returns
 returns c = sym (laid-short _ _ _ (c .if1 .taken))

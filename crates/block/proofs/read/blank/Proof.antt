@@ -1,11 +1,11 @@
--- `block::blank` meets its contract. Assumes nothing.
+-- `block::read::blank` meets its contract. Assumes nothing.
 use Prim.Native.Nat.{_-_}
 use native.Mathlib.Omega.{arith}
 use mathlib.Core.Path.{refl}
 use borrow.Author.Needs.{needs}
 use Rattle.block.proofs.Reading.Looks.{Seeking, seeking-none, seeking-more, seeking-end}
-use Rattle.block.proofs.blank.Statement.{statement}
-use Rattle.block.proofs.blank.Tie as tie
+use Rattle.block.proofs.read.blank.Statement.{statement}
+use Rattle.block.proofs.read.blank.Tie as tie
 
 abbrev Inv-loop : tie.InvT-loop
 Inv-loop block at end s₀ i₀ s i = Seeking at block s i

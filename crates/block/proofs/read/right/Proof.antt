@@ -1,4 +1,4 @@
--- `block::right` meets its contract. Assumes nothing.
+-- `block::read::right` meets its contract. Assumes nothing.
 use Prim.Native.Nat.{ℕ, _+_, _<_}
 use native.Mathlib.Omega.{arith}
 use mathlib.Core.Path.{_≡_, sym, ap, ap₂, _∙_}
@@ -11,8 +11,8 @@ use Rattle.block.specs.Bytes.{numberAt}
 use Rattle.block.specs.Block.{checkAt, rightCheck}
 use Rattle.block.proofs.Reading.Numbers.{Bytes}
 use Rattle.block.proofs.Reading.Looks.{not-right, right-is}
-use Rattle.block.proofs.right.Statement.{statement}
-use Rattle.block.proofs.right.Tie as tie
+use Rattle.block.proofs.read.right.Statement.{statement}
+use Rattle.block.proofs.read.right.Tie as tie
 
 -- the check's numbers, and the sums
 told : (c : tie.After-word) → let b = c .before .before .before .before .args .block .now in
