@@ -1,4 +1,4 @@
--- Keys found in a unit: behind each key its number, 0 where it is not registered (SCOPE 14.12).
+-- Keys found in a unit: behind each key its number, 0 where it is not registered (SCOPE 14.18).
 use Prim.Native.Nat.{ℕ, zero, suc}
 use mathlib.Core.Bool.{true, false}
 use mathlib.Core.List.{List, [], _∷_, map}

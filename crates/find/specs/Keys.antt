@@ -1,4 +1,4 @@
--- Keys written as words, a line each: decimal, or hexadecimal after 0x (SCOPE 14.12).
+-- Keys written as words, a line each: decimal, or hexadecimal after 0x (SCOPE 14.18).
 use Prim.Native.Nat.{ℕ, _+_, _-_, _*_, _^_}
 use mathlib.Core.Bool.{Bool, true, false, cond, _&&_}
 use mathlib.Core.List.{List, [], _∷_, _++_, map}

@@ -1,4 +1,4 @@
--- The list that a unit holds, by recovery of every number (SCOPE 10).
+-- The list that a unit holds, by recovery of every number (SCOPE 14.17).
 use Prim.Native.Nat.{ℕ, zero, suc}
 use mathlib.Core.Bool.{Bool, true, false, _&&_}
 use mathlib.Core.List.{List, [], _∷_}

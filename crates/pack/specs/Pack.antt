@@ -1,4 +1,4 @@
--- A list packed: what is written for a text (SCOPE 14.3, 14.4, 20.4).
+-- A list packed: what is written for a text (SCOPE 14.15).
 use Prim.Native.Nat.{ℕ}
 use mathlib.Core.Bool.{true, false}
 use mathlib.Core.List.{List}
