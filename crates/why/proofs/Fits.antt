@@ -22,15 +22,12 @@ use Rattle.print.proofs.Sentences.{widest, sentence-low}
 use Rattle.answer.specs.Make.{roomy, makeOf}
 use Rattle.answer.proofs.Makes.{of-builds}
 use Rattle.answer.proofs.Fits.Refused.{chosen-number}
-use Rattle.why.specs.declared.scan.State.{State}
-use Rattle.why.specs.declared.scan.Fault.{Fault}
-use Rattle.why.specs.Fault.{atStart, causeAt, causeEnd, past, faultAt, faultFrom, faultOf}
+use Rattle.fault.specs.declared.Fault.{Fault}
+use Rattle.fault.specs.Fault.{faultOf}
 use Rattle.why.specs.Why.{lineSize, formIn, faultForms, longForm, faultText, builtForms, otherForm, vectorAt, firstEqual, builtText, whyOf}
-use Rattle.why.specs.Inner.Within.{Within}
-use Rattle.why.proofs.Scanning.Causes.{clean}
-use Rattle.why.proofs.Scanning.Reading.{fault-on, fault-here, past-within}
-use Rattle.why.proofs.Scanning.Judging.{field-parts}
-use Rattle.why.proofs.Faults.{good-says}
+use Rattle.fault.proofs.Scanning.Judging.{field-parts}
+use Rattle.fault.proofs.Faults.{good-says}
+use Rattle.fault.proofs.Told.{Told, fault-told}
 use Rattle.why.proofs.Whys.{why-bad, why-good, make-good}
 
 -- ---- forms
@@ -63,28 +60,6 @@ said-low ns form a n =
     omega (arith, sentence-low ns (λ i. omega (arith, words-at ns a i)) form, leb-true (widest (length ns) form) lineSize n)
 
 -- ---- faults
-
--- a place that can be told, and a byte
-record Told (f : Fault) : Type 0 where
-  line : f .line ≤ maxText + 1
-  column : f .column ≤ maxText + 1
-  byte : f .byte < 256
-
-at-told : (s : State) (c b : ℕ) → Within s → s .at ≤ maxText → Told (faultAt s c b)
-at-told s c b w h = record { line = omega (arith, w .lines); column = omega (arith, w .columns); byte = omega arith }
-
-from-told : (bs : List ℕ) (s : State) → Within s → s .at ≤ maxText → Told (faultFrom s bs)
-unfolding faultFrom past
-from-told [] s w h = at-told s (causeEnd s) 0 w h
-from-told (b ∷ bs) s w h = go (causeAt s b) refl (from-told bs (past s b) (past-within s b w))
-  where
-    go : (c : ℕ) → causeAt s b ≡ c → (s .at + 1 ≤ maxText → Told (faultFrom (past s b) bs)) → Told (faultFrom s (b ∷ bs))
-    go zero e r = rw (fault-on s b bs e) (r (omega (arith, clean s b e .short)))
-    go (suc c) e r = rw (fault-here s b bs (λ z. omega (arith, sym e ∙ z))) (at-told s (causeAt s b) b w h)
-
-fault-told : (text : List ℕ) → Told (faultOf text)
-unfolding faultOf
-fault-told text = from-told text atStart (record { lines = omega arith; columns = omega arith; numbers = omega arith }) (omega arith)
 
 fault-low : (f : Fault) → Told f → length (faultText f) ≤ lineSize
 unfolding faultText every narrow widest

@@ -11,7 +11,7 @@ use Rattle.build.specs.declared.Built.{Built}
 use Rattle.print.specs.Print.{maxFields, fitted}
 use Rattle.print.specs.Sentence.{sentence, sentenceOf}
 use Rattle.print.proofs.Sentences.{sentence-few}
-use Rattle.why.specs.declared.scan.Fault.{Fault}
+use Rattle.fault.specs.declared.Fault.{Fault}
 use Rattle.why.specs.Why.{formIn, faultForms, longForm, faultText, builtForms, otherForm, vectorAt, firstEqual, builtText}
 
 -- a key that no entry has

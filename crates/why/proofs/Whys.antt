@@ -8,7 +8,7 @@ use Rattle.build.specs.declared.Built.{Built}
 use Rattle.input.specs.declared.Input.{Input}
 use Rattle.input.specs.Input.{maxListed, goodText, numbersIn, inputFrom, inputOf}
 use Rattle.answer.specs.Make.{roomy, makeOf}
-use Rattle.why.specs.Fault.{faultOf}
+use Rattle.fault.specs.Fault.{faultOf}
 use Rattle.why.specs.Why.{faultText, builtText, answeredText, whyBy, whyOf}
 
 -- a text reads as good when it is

@@ -1,18 +1,12 @@
--- What the line of a text says of it, as predicates.
+-- What the line of a text says of it, as a predicate.
 use Prim.Native.Nat.{ℕ, _≤_, _<_}
 use mathlib.Core.Path.{_≡_}
 use mathlib.Core.Bool.{true}
 use mathlib.Core.List.{List}
-use lib.Dec.{eqb}
 use lib.ListN.{length, drop}
 use Rattle.input.specs.Input.{maxListed, goodText, numbersIn}
 use Rattle.answer.specs.Make.{roomy, makeOf}
-use Rattle.why.specs.Fault.{faultOf}
 use Rattle.why.specs.Why.{vectorAt, firstEqual}
-
--- SCOPE 14.12: no fault is found in a list, and one is found in every other text
-abbrev pub FindsFaults : Type 0
-FindsFaults = (text : List ℕ) → eqb (faultOf text .cause) 0 ≡ goodText text maxListed
 
 -- of the vectors, vector first is earlier than vector place, equals it, and is the first that does
 pub record Alike (vs : List ℕ) (first place : ℕ) : Type 0 where

@@ -10,8 +10,8 @@ use Rattle.input.specs.Input.{maxListed, goodText, numbersIn}
 use Rattle.print.specs.Ascii.{ascii}
 use Rattle.print.specs.Sentence.{sentence}
 use Rattle.answer.specs.Make.{roomy, makeOf}
-use Rattle.why.specs.declared.scan.Fault.{Fault}
-use Rattle.why.specs.Fault.{noDigit, endBefore, otherByte, largeNumber, fewNumbers, manyVectors, faultOf}
+use Rattle.fault.specs.declared.Fault.{Fault}
+use Rattle.fault.specs.Fault.{noDigit, endBefore, otherByte, largeNumber, fewNumbers, manyVectors, faultOf}
 
 -- bytes that every line fits into
 abbrev pub lineSize : ℕ

@@ -2,11 +2,9 @@
 ghost use mathlib.Core.Path.{_≡_};
 ghost use Rattle.print.specs.Print.{printed, fitted};
 ghost use Rattle.why.specs.Why.{faultText, vectorAt, firstEqual, builtText, whyOf};
+use fault::Fault;
 use input::Input;
-use scan::Fault;
 use unit::Built;
-
-mod scan;
 
 // The vector with a number, from 1; 0 where there is none.
 fn vector_at(vectors: &[u64], place: usize) -> u64
@@ -127,7 +125,7 @@ pub fn why(text: &[u8], out: &mut [u8]) -> usize
     let mut vectors = [0u64; 1024];
     let list = input::read(text, &mut vectors);
     if !list.good {
-        let fault = scan::find(text);
+        let fault = fault::find(text);
         return say_fault(fault, out);
     }
     let mut h = [0u16; 4096];

@@ -9,7 +9,7 @@ use lib.Dec.{eqb}
 use lib.ListN.{length, getD, take}
 use Rattle.input.specs.Fields.{separator, onto, fields}
 use Rattle.input.specs.Input.{body}
-use Rattle.print.specs.Line.{newline}
+use Rattle.fault.specs.Fault.{newline}
 
 -- a byte that is not a final newline is kept
 pub body-cons : (b : ℕ) (bs : List ℕ) → (bs ≡ [] → b ≡ newline → ⊥) → body (b ∷ bs) ≡ b ∷ body bs

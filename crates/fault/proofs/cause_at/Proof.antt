@@ -1,4 +1,4 @@
--- `why::scan::cause_at` meets its contract. Assumes nothing.
+-- `fault::cause_at` meets its contract. Assumes nothing.
 use borrow.Author.Needs.{needs}
 use Prim.Native.Nat.{_≤_, _<_}
 use native.Mathlib.Omega.{arith}
@@ -8,9 +8,9 @@ use borrow.Author.Tests.{not-true, not-false}
 use Rattle.input.specs.Fields.{separator}
 use Rattle.input.specs.Decimal.{digit}
 use Rattle.input.specs.Input.{maxText}
-use Rattle.why.proofs.Scanning.Causes.{digit-low, cause-long, cause-separator, cause-other, cause-many, cause-large, cause-none}
-use Rattle.why.proofs.scan.cause_at.Statement.{statement}
-use Rattle.why.proofs.scan.cause_at.Tie as tie
+use Rattle.fault.proofs.Scanning.Causes.{digit-low, cause-long, cause-separator, cause-other, cause-many, cause-large, cause-none}
+use Rattle.fault.proofs.cause_at.Statement.{statement}
+use Rattle.fault.proofs.cause_at.Tie as tie
 
 returns : tie.Need-returns
 returns c = sym (cause-long (c .before .before .args .s) (c .before .before .args .b) (c .if1 .taken))

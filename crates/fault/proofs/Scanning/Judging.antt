@@ -13,12 +13,12 @@ use Rattle.input.specs.Fields.{separator, fields}
 use Rattle.input.specs.Decimal.{maxNumber, digit, valueFrom, valueOf, goodField}
 use Rattle.input.specs.Input.{maxText}
 use Rattle.input.proofs.Decimals.Digits.{value-grows}
-use Rattle.print.specs.Line.{space, newline}
-use Rattle.why.specs.declared.scan.State.{State}
-use Rattle.why.specs.declared.scan.Fault.{Fault}
-use Rattle.why.specs.Fault.{endBefore, fewNumbers, maxNumbers, counted, grown, causeAt, causeEnd, past, faultFrom}
-use Rattle.why.proofs.Scanning.Causes.{counted-by, clean, cause-separator, cause-none, end-space, end-few, end-none}
-use Rattle.why.proofs.Scanning.Reading.{fault-on, fault-here}
+use Rattle.fault.specs.Fault.{space, newline}
+use Rattle.fault.specs.declared.State.{State}
+use Rattle.fault.specs.declared.Fault.{Fault}
+use Rattle.fault.specs.Fault.{endBefore, fewNumbers, maxNumbers, counted, grown, causeAt, causeEnd, past, faultFrom}
+use Rattle.fault.proofs.Scanning.Causes.{counted-by, clean, cause-separator, cause-none, end-space, end-few, end-none}
+use Rattle.fault.proofs.Scanning.Reading.{fault-on, fault-here}
 
 abbrev pub Iff : Type 0 → Type 0 → Type 0
 Iff A B = (A → B) × (B → A)

@@ -1,14 +1,14 @@
--- `why::scan::find` meets its contract. Assumes nothing.
+-- `fault::find` meets its contract. Assumes nothing.
 use borrow.Author.Needs.{needs}
 use Prim.Native.Nat.{ℕ, _-_, _%_}
 use native.Mathlib.Omega.{arith}
 use mathlib.Core.Path.{_≡_, sym, ap, ap₂, _∙_}
 use lib.ListN.{length, getD}
-use Rattle.why.specs.declared.scan.State.{State}
-use Rattle.why.specs.Fault.{faultAt}
-use Rattle.why.proofs.Scanning.Reading.{Reading, reading-none, reading-more, reading-fault, reading-end}
-use Rattle.why.proofs.scan.find.Statement.{statement}
-use Rattle.why.proofs.scan.find.Tie as tie
+use Rattle.fault.specs.declared.State.{State}
+use Rattle.fault.specs.Fault.{faultAt}
+use Rattle.fault.proofs.Scanning.Reading.{Reading, reading-none, reading-more, reading-fault, reading-end}
+use Rattle.fault.proofs.find.Statement.{statement}
+use Rattle.fault.proofs.find.Tie as tie
 
 abbrev Inv-loop : tie.InvT-loop
 Inv-loop text s₀ i₀ s i = Reading text s i

@@ -8,11 +8,11 @@ use mathlib.Core.List.{List, _∷_}
 use lib.Dec.{eqb}
 use lib.ListN.{length, getD, drop, drop-of-length-le}
 use lib.Seq.{drop-cons}
-use Rattle.print.specs.Line.{newline}
-use Rattle.why.specs.declared.scan.State.{State}
-use Rattle.why.specs.Fault.{atStart, causeAt, causeEnd, past, faultAt, faultFrom, faultOf}
-use Rattle.why.specs.Inner.Within.{Within}
-use Rattle.why.proofs.Scanning.Causes.{counted-low}
+use Rattle.fault.specs.Fault.{newline}
+use Rattle.fault.specs.declared.State.{State}
+use Rattle.fault.specs.Fault.{atStart, causeAt, causeEnd, past, faultAt, faultFrom, faultOf}
+use Rattle.fault.specs.Inner.Within.{Within}
+use Rattle.fault.proofs.Scanning.Causes.{counted-low}
 
 module _ (s : State) (b : ℕ) (bs : List ℕ) where
   pub fault-on : causeAt s b ≡ 0 → faultFrom s (b ∷ bs) ≡ faultFrom (past s b) bs

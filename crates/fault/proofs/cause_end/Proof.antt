@@ -1,8 +1,8 @@
--- `why::scan::cause_end` meets its contract. Assumes nothing.
+-- `fault::cause_end` meets its contract. Assumes nothing.
 use mathlib.Core.Path.{sym}
-use Rattle.why.proofs.Scanning.Causes.{end-space, end-few, end-none}
-use Rattle.why.proofs.scan.cause_end.Statement.{statement}
-use Rattle.why.proofs.scan.cause_end.Tie as tie
+use Rattle.fault.proofs.Scanning.Causes.{end-space, end-few, end-none}
+use Rattle.fault.proofs.cause_end.Statement.{statement}
+use Rattle.fault.proofs.cause_end.Tie as tie
 
 returns : tie.Need-returns
 returns c = sym (end-space (c .before .before .args .s) (c .if1 .taken))

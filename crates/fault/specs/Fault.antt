@@ -6,9 +6,15 @@ use lib.Dec.{eqb, leb, ltb}
 use Rattle.input.specs.Fields.{separator}
 use Rattle.input.specs.Decimal.{maxNumber, digit}
 use Rattle.input.specs.Input.{maxText, maxListed}
-use Rattle.print.specs.Line.{space, newline}
-use Rattle.why.specs.declared.scan.State.{State}
-use Rattle.why.specs.declared.scan.Fault.{Fault}
+use Rattle.fault.specs.declared.State.{State}
+use Rattle.fault.specs.declared.Fault.{Fault}
+
+-- the separators (SCOPE 14.1)
+abbrev pub space : ℕ
+space = 32
+
+abbrev pub newline : ℕ
+newline = 10
 
 -- the causes, by number; 0 is none
 abbrev pub noDigit : ℕ

@@ -1,14 +1,14 @@
--- `why::scan::past` meets its contract. Assumes nothing.
+-- `fault::past` meets its contract. Assumes nothing.
 use native.Mathlib.Omega.{arith}
 use Prim.Native.Nat.{ℕ, _+_, _≤_}
 use mathlib.Core.Path.{_≡_, sym, ap, _∙_}
 use mathlib.Core.Bool.{false}
 use Rattle.input.specs.Fields.{separator}
 use Rattle.input.specs.Decimal.{maxNumber}
-use Rattle.why.specs.Fault.{grown}
-use Rattle.why.proofs.Scanning.Causes.{Clean, clean, digit-low, no-separator, past-newline, past-space, past-digit}
-use Rattle.why.proofs.scan.past.Statement.{statement}
-use Rattle.why.proofs.scan.past.Tie as tie
+use Rattle.fault.specs.Fault.{grown}
+use Rattle.fault.proofs.Scanning.Causes.{Clean, clean, digit-low, no-separator, past-newline, past-space, past-digit}
+use Rattle.fault.proofs.past.Statement.{statement}
+use Rattle.fault.proofs.past.Tie as tie
 
 known : (c : tie.Start) → Clean (c .args .s) (c .args .b)
 known c = clean (c .args .s) (c .args .b) (c .pre .1)

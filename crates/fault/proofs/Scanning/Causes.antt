@@ -9,9 +9,9 @@ use Rattle.lists.proofs.Tests.{and-true}
 use Rattle.input.specs.Fields.{separator}
 use Rattle.input.specs.Decimal.{maxNumber, digit}
 use Rattle.input.specs.Input.{maxText}
-use Rattle.print.specs.Line.{space, newline}
-use Rattle.why.specs.declared.scan.State.{State}
-use Rattle.why.specs.Fault.{noDigit, endBefore, otherByte, largeNumber, fewNumbers, manyVectors, longText, maxNumbers, counted, grown, causeAt, causeEnd, past}
+use Rattle.fault.specs.Fault.{space, newline}
+use Rattle.fault.specs.declared.State.{State}
+use Rattle.fault.specs.Fault.{noDigit, endBefore, otherByte, largeNumber, fewNumbers, manyVectors, longText, maxNumbers, counted, grown, causeAt, causeEnd, past}
 
 apart : {t : Bool} → t ≡ true → t ≡ false → ⊥
 apart p q = true≢false (sym p ∙ q)

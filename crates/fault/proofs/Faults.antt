@@ -12,12 +12,12 @@ use Rattle.lists.proofs.Tests.{and-true, true-iff}
 use Rattle.input.specs.Fields.{separator, fields}
 use Rattle.input.specs.Decimal.{goodField}
 use Rattle.input.specs.Input.{maxText, maxListed, body, listed, goodText}
-use Rattle.print.specs.Line.{newline}
-use Rattle.why.specs.declared.scan.State.{State}
-use Rattle.why.specs.Fault.{maxNumbers, atStart, past, faultFrom, faultOf}
-use Rattle.why.specs.Facts.{FindsFaults}
-use Rattle.why.proofs.Scanning.Bodies.{body-cons, fields-parted, fields-grown, split}
-use Rattle.why.proofs.Scanning.Judging.{Iff, Rest, Sane, at-end, by-byte, at-newline, field-parts, parted, grew, sane-past}
+use Rattle.fault.specs.Fault.{newline}
+use Rattle.fault.specs.declared.State.{State}
+use Rattle.fault.specs.Fault.{maxNumbers, atStart, past, faultFrom, faultOf}
+use Rattle.fault.specs.Facts.{FindsFaults}
+use Rattle.fault.proofs.Scanning.Bodies.{body-cons, fields-parted, fields-grown, split}
+use Rattle.fault.proofs.Scanning.Judging.{Iff, Rest, Sane, at-end, by-byte, at-newline, field-parts, parted, grew, sane-past}
 
 -- no fault is found from a state on exactly where the fields that are left may follow
 abbrev Judged : State → List ℕ → Type 0

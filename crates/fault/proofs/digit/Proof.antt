@@ -1,10 +1,10 @@
--- `why::scan::digit` meets its contract. Assumes nothing.
+-- `fault::digit` meets its contract. Assumes nothing.
 use borrow.Author.Tests.{le-leb, lt-leb}
 use mathlib.Core.Path.{sym, ap}
 use mathlib.Core.Bool.{Bool, _&&_}
 use lib.Dec.{leb}
-use Rattle.why.proofs.scan.digit.Statement.{statement}
-use Rattle.why.proofs.scan.digit.Tie as tie
+use Rattle.fault.proofs.digit.Statement.{statement}
+use Rattle.fault.proofs.digit.Tie as tie
 
 returns : tie.Need-returns
 returns c = rw (lt-leb 48 _ (c .if1 .taken))

@@ -1,7 +1,7 @@
--- `why::scan::separator` meets its contract. Assumes nothing.
+-- `fault::separator` meets its contract. Assumes nothing.
 use borrow.Author.Tests.{eq-eqb, ne-eqb}
-use Rattle.why.proofs.scan.separator.Statement.{statement}
-use Rattle.why.proofs.scan.separator.Tie as tie
+use Rattle.fault.proofs.separator.Statement.{statement}
+use Rattle.fault.proofs.separator.Tie as tie
 
 returns : tie.Need-returns
 returns c = rw (eq-eqb _ _ (c .if1 .taken))

@@ -4,8 +4,8 @@ ghost use Prim.Native.Nat.{_≤_};
 ghost use Rattle.input.specs.Fields as fields;
 ghost use Rattle.input.specs.Decimal as decimal;
 ghost use Rattle.input.specs.Input.{maxText};
-ghost use Rattle.why.specs.Fault as spec;
-ghost use Rattle.why.specs.Inner.Within.{Within};
+ghost use Rattle.fault.specs.Fault as spec;
+ghost use Rattle.fault.specs.Inner.Within.{Within};
 
 const NO_DIGIT: u8 = 1;
 
@@ -30,21 +30,21 @@ const MAX_NUMBER: u64 = 18446744073709551615;
 const FIRST_COLUMN: usize = 1;
 
 // What was read: how many bytes, the place of the next one, how many numbers have begun, the last byte, and the value of the number that it stands in.
-pub(crate) struct State {
-    pub(crate) at: usize,
-    pub(crate) line: usize,
-    pub(crate) column: usize,
-    pub(crate) count: usize,
-    pub(crate) last: u8,
-    pub(crate) value: u64,
+struct State {
+    at: usize,
+    line: usize,
+    column: usize,
+    count: usize,
+    last: u8,
+    value: u64,
 }
 
 // What is at fault, and where; cause 0 where nothing is.
-pub(crate) struct Fault {
-    pub(crate) cause: u8,
-    pub(crate) line: usize,
-    pub(crate) column: usize,
-    pub(crate) byte: u8,
+pub struct Fault {
+    pub cause: u8,
+    pub line: usize,
+    pub column: usize,
+    pub byte: u8,
 }
 
 fn separator(b: u8) -> bool
@@ -154,7 +154,7 @@ fn past(s: State, b: u8) -> State
 }
 
 // The first fault of a text.
-pub(crate) fn find(text: &[u8]) -> Fault
+pub fn find(text: &[u8]) -> Fault
     ensures { λ r. ⌜ r ≡ spec.faultOf (now (text .entry)) ⌝ }
 {
     let mut s = State {

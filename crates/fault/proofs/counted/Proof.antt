@@ -1,9 +1,9 @@
--- `why::scan::counted` meets its contract. Assumes nothing.
+-- `fault::counted` meets its contract. Assumes nothing.
 use borrow.Author.Needs.{needs}
 use mathlib.Core.Path.{sym, _∙_}
-use Rattle.why.proofs.Scanning.Causes.{counted-by}
-use Rattle.why.proofs.scan.counted.Statement.{statement}
-use Rattle.why.proofs.scan.counted.Tie as tie
+use Rattle.fault.proofs.Scanning.Causes.{counted-by}
+use Rattle.fault.proofs.counted.Statement.{statement}
+use Rattle.fault.proofs.counted.Tie as tie
 
 returns : tie.Need-returns
 returns c = let t = c .before in sym (counted-by (t .before .before .args .s) (sym (t .before .separator .ensures) ∙ t .if1 .taken))

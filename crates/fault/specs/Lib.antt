@@ -1,0 +1,3 @@
+pub mod Fault
+pub mod Facts
+pub mod Inner
