@@ -1,4 +1,4 @@
--- Where a text stops being a list, and what is at fault there (SCOPE 14.11, 14.12): the text read byte by byte, up to the first fault.
+-- Where a text stops being a list, and what is at fault there (SCOPE 14.11): the text read byte by byte, up to the first fault.
 use Prim.Native.Nat.{ℕ, zero, suc, _+_, _-_, _*_, _%_}
 use mathlib.Core.Bool.{true, false, cond}
 use mathlib.Core.List.{List, [], _∷_}

@@ -9,6 +9,8 @@ use Rattle.input.specs.declared.Input.{Input}
 use Rattle.input.specs.Input.{maxListed, goodText, numbersIn, inputFrom, inputOf}
 use Rattle.answer.specs.Make.{roomy, makeOf}
 use Rattle.fault.specs.Fault.{faultOf}
+use Rattle.fault.proofs.Faults.{fault-iff}
+use Rattle.why.specs.Facts.{GoesByFault}
 use Rattle.why.specs.Why.{faultText, builtText, answeredText, whyBy, whyOf}
 
 -- a text reads as good when it is
@@ -27,6 +29,10 @@ why-bad text b = rw (b, whyBy)
 pub why-good : (text : List ℕ) → goodText text maxListed ≡ true → answeredText (makeOf text roomy .outcome .built) (numbersIn text) ≡ whyOf text
 unfolding whyOf whyBy
 why-good text y = rw (y, whyBy)
+
+pub why-tells : GoesByFault
+unfolding whyOf
+why-tells text = ap (λ (t : Bool). whyBy t text) (sym (fault-iff text))
 
 -- a list is built
 pub make-good : (text : List ℕ) → goodText text maxListed ≡ true → makeOf text roomy .good ≡ true

@@ -1,12 +1,18 @@
--- What the line of a text says of it, as a predicate.
+-- What the line of a text says of it, as predicates.
 use Prim.Native.Nat.{ℕ, _≤_, _<_}
 use mathlib.Core.Path.{_≡_}
 use mathlib.Core.Bool.{true}
 use mathlib.Core.List.{List}
+use lib.Dec.{eqb}
 use lib.ListN.{length, drop}
 use Rattle.input.specs.Input.{maxListed, goodText, numbersIn}
 use Rattle.answer.specs.Make.{roomy, makeOf}
-use Rattle.why.specs.Why.{vectorAt, firstEqual}
+use Rattle.fault.specs.Fault.{faultOf}
+use Rattle.why.specs.Why.{vectorAt, firstEqual, whyBy, whyOf}
+
+-- SCOPE 14.11: the line is that of a fault exactly where there is one
+abbrev pub GoesByFault : Type 0
+GoesByFault = (text : List ℕ) → whyOf text ≡ whyBy (eqb (faultOf text .cause) 0) text
 
 -- of the vectors, vector first is earlier than vector place, equals it, and is the first that does
 pub record Alike (vs : List ℕ) (first place : ℕ) : Type 0 where

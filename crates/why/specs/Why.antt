@@ -1,4 +1,4 @@
--- Why a text is not taken, in one line (SCOPE 14.11 to 14.13).
+-- Why a text is not taken, in one line (SCOPE 14.10 to 14.13).
 use Prim.Native.Nat.{ℕ}
 use mathlib.Core.Bool.{Bool, true, false}
 use mathlib.Core.List.{List, [], _∷_}
@@ -79,7 +79,7 @@ builtText b n degree cells vs =
 abbrev pub answeredText : Built → List ℕ → List ℕ
 answeredText b ns = builtText b (getD ns 0 0) (getD ns 1 0) (getD ns 2 0) (drop 3 ns)
 
--- a text that is no list: where it stops being one; a list: what its build answers
+-- SCOPE 14.10. Of a text that is no list, where it stops being one; of a list, what its build answers
 unfoldable pub whyBy : Bool → List ℕ → List ℕ
 unfolding faultText faultOf builtText makeOf numbersIn
 whyBy t text =

@@ -1,10 +1,10 @@
 -- Every cause once, from the bytes read to the line written, computed.
 use mathlib.Core.Path.{_≡_, refl}
-use mathlib.Core.List.{[], _∷_, _++_}
-use lib.ListN.{replicate}
+use mathlib.Core.List.{[], _∷_}
 use Rattle.print.specs.Ascii.{ascii}
 use Rattle.input.specs.InputSamples.{ones}
-use Rattle.why.specs.Why.{whyOf}
+use Rattle.fault.specs.Fault.{faultFrom}
+use Rattle.why.specs.Why.{faultText, whyOf}
 
 pub record Table : Type 0 where
   -- the list S; with newlines between
@@ -30,9 +30,10 @@ pub record Table : Type 0 where
   -- one number; two, and a final newline
   pub one : whyOf (ascii "6") ≡ ascii "line 1 column 2: the end, where one of the first three numbers is expected\n"
   pub two : whyOf (ascii "6 2\n") ≡ ascii "line 2 column 1: the end, where one of the first three numbers is expected\n"
-  -- 1,025 vectors; a byte above 64 KiB
+  -- 1,025 vectors; a byte above 64 KiB, from the last one below on
   pub many : whyOf (ones 1028) ≡ ascii "line 1 column 2055: byte 49, where the end, after 1024 vectors, is expected\n"
-  pub long : whyOf (replicate 65531 48 ++ ascii "6 2 7\n") ≡ ascii "line 1 column 65537: byte 10, where the end, after 65536 bytes, is expected\n"
+  pub long : faultText (faultFrom (record { at = 65535; line = 1; column = 65536; count = 3; last = 48; value = 0 }) (ascii "7\n"))
+      ≡ ascii "line 1 column 65537: byte 10, where the end, after 65536 bytes, is expected\n"
   -- refusals
   pub inputs : whyOf (ascii "65 2 7 16") ≡ ascii "refused 1 0: n is 65\n"
   pub degree : whyOf (ascii "6 3 7 16") ≡ ascii "refused 2 0: the degree is 3\n"
@@ -44,7 +45,7 @@ pub record Table : Type 0 where
   pub no-place : whyOf (ascii "6 2 6 16 18 20 28 32 55 58\n") ≡ ascii "refused 13 3: row 3 has no place\n"
 
 pub samples : Table
-unfolding whyOf
+unfolding whyOf faultText faultFrom
 samples =
     record {
       good = refl;
