@@ -1,11 +1,12 @@
 // A text read byte by byte, up to the first place where it stops being a list.
 ghost use mathlib.Core.Path.{_≡_};
 ghost use Prim.Native.Nat.{_≤_};
-ghost use Rattle.input.specs.Fields as fields;
-ghost use Rattle.input.specs.Decimal as decimal;
 ghost use Rattle.input.specs.Input.{maxText};
 ghost use Rattle.fault.specs.Fault as spec;
 ghost use Rattle.fault.specs.Inner.Within.{Within};
+use input::MAX_LISTED;
+use input::MAX_NUMBER;
+use input::MAX_TEXT;
 
 const NO_DIGIT: u8 = 1;
 
@@ -21,11 +22,8 @@ const MANY_VECTORS: u8 = 6;
 
 const LONG_TEXT: u8 = 7;
 
-const MAX_TEXT: usize = 65536;
-
-const MAX_NUMBERS: usize = 1027;
-
-const MAX_NUMBER: u64 = 18446744073709551615;
+// n, the degree, L and the vectors.
+const MAX_NUMBERS: usize = 3 + MAX_LISTED;
 
 const FIRST_COLUMN: usize = 1;
 
@@ -47,29 +45,11 @@ pub struct Fault {
     pub byte: u8,
 }
 
-fn separator(b: u8) -> bool
-    ensures { λ r. ⌜ r ≡ fields.separator b ⌝ }
-{
-    if b == 32 {
-        return true;
-    }
-    b == 10
-}
-
-fn digit(b: u8) -> bool
-    ensures { λ r. ⌜ r ≡ decimal.digit b ⌝ }
-{
-    if b < 48 {
-        return false;
-    }
-    b <= 57
-}
-
 fn counted(s: State) -> usize
     requires { ⌜ s .count ≤ maxText ⌝ }
     ensures { λ r. ⌜ r ≡ spec.counted s ⌝ }
 {
-    if separator(s.last) {
+    if input::separator(s.last) {
         return s.count + 1;
     }
     s.count
@@ -82,14 +62,14 @@ fn cause_at(s: State, b: u8) -> u8
     if MAX_TEXT <= s.at {
         return LONG_TEXT;
     }
-    let begins = separator(s.last);
-    if separator(b) {
+    let begins = input::separator(s.last);
+    if input::separator(b) {
         if begins {
             return NO_DIGIT;
         }
         return 0;
     }
-    if !digit(b) {
+    if !input::digit(b) {
         if begins {
             return NO_DIGIT;
         }

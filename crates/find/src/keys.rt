@@ -4,10 +4,9 @@ ghost use Prim.Native.Nat.{_≤_};
 ghost use lib.ListN.{length};
 ghost use Rattle.find.specs.Keys.{maxKeys, digitOf, numeralOf, keyOf};
 ghost use Rattle.find.specs.Inner.{lineLength, ReadAs};
+use print::MAX_BYTES;
 
 const MAX_KEY: u64 = 18446744073709551615;
-
-const MAX_BYTES: usize = 65536;
 
 // A key's value; 0 where it is not good.
 pub(crate) struct Key {

@@ -4,7 +4,8 @@ ghost use Rattle.input.specs.Fields as fields;
 ghost use Rattle.input.specs.Decimal as spec;
 ghost use Rattle.input.specs.Inner.Number.{numberAt, endedAt};
 
-const MAX_NUMBER: u64 = 18446744073709551615;
+// The largest number that may be written.
+pub const MAX_NUMBER: u64 = 18446744073709551615;
 
 // A number's value, and the place after its last digit. Of what is no number both are 0.
 pub(crate) struct Number {
@@ -19,7 +20,8 @@ const NO_NUMBER: Number = Number {
     end: 0,
 };
 
-fn separator(b: u8) -> bool
+// A space or a newline.
+pub fn separator(b: u8) -> bool
     ensures { λ r. ⌜ r ≡ fields.separator b ⌝ }
 {
     if b == 32 {
@@ -28,7 +30,7 @@ fn separator(b: u8) -> bool
     b == 10
 }
 
-fn digit(b: u8) -> bool
+pub fn digit(b: u8) -> bool
     ensures { λ r. ⌜ r ≡ spec.digit b ⌝ }
 {
     if b < 48 {

@@ -12,9 +12,15 @@ ghost use Rattle.input.specs.Inner.Reading.{left, countOf};
 
 mod decimal;
 
-const MAX_TEXT: usize = 65536;
+pub use decimal::MAX_NUMBER;
+pub use decimal::digit;
+pub use decimal::separator;
 
-const MAX_LISTED: usize = 1024;
+// The bytes of the longest text.
+pub const MAX_TEXT: usize = 65536;
+
+// The vectors of the longest list that is read.
+pub const MAX_LISTED: usize = 1024;
 
 // What a text says. Of a text that is not good every number is 0.
 pub struct Input {

@@ -7,10 +7,9 @@ ghost use Rattle.print.specs.Sentence.{pieceOf, sentence as Sentence·se
 ghost use Rattle.print.specs.Inner.Written.{Written, maxPlace};
 use crate::decimal;
 use crate::line;
+use crate::page::MAX_FIELDS;
 
 const FIRST_LETTER: u8 = 65;
-
-const MAX_FIELDS: usize = 8192;
 
 // A byte of a form: itself, or the number whose letter it is.
 fn piece(b: u8, numbers: &[u64], out: &mut [u8], at: usize) -> usize

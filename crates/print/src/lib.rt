@@ -5,6 +5,7 @@ mod line;
 mod page;
 
 pub use form::sentence;
+pub use page::MAX_BYTES;
 pub use page::beside;
 pub use page::lines;
 pub use page::print;

@@ -93,7 +93,8 @@ pub fn print(unit: Record, h: &[u16], g: &[u16], aux: &[u64], out: &mut [u8]) ->
     )
 }
 
-const MAX_FIELDS: usize = 8192;
+// More numbers than anything printed has.
+pub(crate) const MAX_FIELDS: usize = 8192;
 
 // Prints numbers, a line each, and answers how many bytes that takes; 0, and nothing is written, where they are more than 8,192 or do not fit.
 pub fn lines(words: &[u64], out: &mut [u8]) -> usize
@@ -109,7 +110,8 @@ pub fn lines(words: &[u64], out: &mut [u8]) -> usize
     line::lines(words, out, 0)
 }
 
-const MAX_BYTES: usize = 65536;
+// The bytes of the longest text whose lines get numbers.
+pub const MAX_BYTES: usize = 65536;
 
 // Prints the lines of a text, a number behind each, and answers how many bytes that takes; 0, and nothing is written, where the text has more
 // than 65,536 bytes or they do not fit.
