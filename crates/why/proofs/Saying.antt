@@ -21,7 +21,7 @@ form-none [] other key a = refl
 form-none (f ∷ fs) other key a = rw (ne-eqb key (f .0) (a .0), formIn) (form-none fs other key (a .1))
 
 -- a sentence with the form that was looked up
-said : (numbers out form found : List ℕ) → found ≡ form → leb (length form) maxFields ≡ true → sentenceOf form numbers out ≡ fitted (sentence numbers found) out
+pub said : (numbers out form found : List ℕ) → found ≡ form → leb (length form) maxFields ≡ true → sentenceOf form numbers out ≡ fitted (sentence numbers found) out
 said numbers out form found e l =
     sym (sentence-few form numbers out (leb-true (length form) maxFields l)) ∙ ap (λ (x : List ℕ). fitted (sentence numbers x) out) (sym e)
 
@@ -30,11 +30,11 @@ module _ (f : Fault) (out form : List ℕ) (short : leb (length form) maxFields 
   unfolding faultText
   fault-said e = said (f .line ∷ f .column ∷ f .byte ∷ []) out form (formIn faultForms longForm (f .cause)) e short
 
-module _ (b : Built) (n degree cells : ℕ) (vs out form : List ℕ) (short : leb (length form) maxFields ≡ true) where
-  pub built-said : (v first : ℕ) → v ≡ vectorAt vs (b .place) → first ≡ firstEqual v vs → formIn builtForms otherForm (b .refusal) ≡ form
-      → sentenceOf form (b .refusal ∷ b .place ∷ n ∷ degree ∷ cells ∷ length vs ∷ v ∷ first ∷ []) out ≡ fitted (builtText b n degree cells vs) out
-  unfolding builtText
-  built-said v first p q e =
-      ap (λ (x : ℕ). sentenceOf form (b .refusal ∷ b .place ∷ n ∷ degree ∷ cells ∷ length vs ∷ v ∷ x ∷ []) out) q
-      ∙ ap (λ (x : ℕ). sentenceOf form (b .refusal ∷ b .place ∷ n ∷ degree ∷ cells ∷ length vs ∷ x ∷ firstEqual x vs ∷ []) out) p
-      ∙ said (b .refusal ∷ b .place ∷ n ∷ degree ∷ cells ∷ length vs ∷ vectorAt vs (b .place) ∷ firstEqual (vectorAt vs (b .place)) vs ∷ []) out form (formIn builtForms otherForm (b .refusal)) e short
+-- the numbers of a refusal, as they were found
+pub built-said : (b : Built) (n degree cells : ℕ) (vs out : List ℕ) (v first : ℕ) → v ≡ vectorAt vs (b .place) → first ≡ firstEqual v vs
+    → fitted (sentence (b .refusal ∷ b .place ∷ n ∷ degree ∷ cells ∷ length vs ∷ v ∷ first ∷ []) (formIn builtForms otherForm (b .refusal))) out
+    ≡ fitted (builtText b n degree cells vs) out
+unfolding builtText
+built-said b n degree cells vs out v first p q =
+    ap (λ (l : List ℕ). fitted (sentence (b .refusal ∷ b .place ∷ n ∷ degree ∷ cells ∷ length vs ∷ l) (formIn builtForms otherForm (b .refusal))) out)
+    (ap (λ (x : ℕ). v ∷ x ∷ []) q ∙ ap (λ (x : ℕ). x ∷ firstEqual x vs ∷ []) p)

@@ -1,7 +1,8 @@
 // Why a text is not taken: where it stops being a list, or what its build refuses.
 ghost use mathlib.Core.Path.{_≡_};
 ghost use Rattle.print.specs.Print.{printed, fitted};
-ghost use Rattle.why.specs.Why.{faultText, vectorAt, firstEqual, builtText, whyOf};
+ghost use Rattle.print.specs.Sentence.{sentence};
+ghost use Rattle.why.specs.Why.{formIn, builtForms, otherForm, faultText, vectorAt, firstEqual, builtText, whyOf};
 use fault::Fault;
 use input::Input;
 use unit::Built;
@@ -79,6 +80,32 @@ fn say_fault(fault: Fault, out: &mut [u8]) -> usize
     }
 }
 
+// Prints the sentence of a refusal with its numbers.
+fn say_refusal(refusal: u8, numbers: &[u64], out: &mut [u8]) -> usize
+    ensures { λ r. ⌜ printed r (now (out .exit)) ≡ fitted (sentence (now (numbers .entry)) (formIn builtForms otherForm refusal)) (now (out .entry)) ⌝ }
+{
+    match refusal {
+        0 => print::sentence(b"good\n", numbers, out),
+        1 => print::sentence(b"refused A B: n is C\n", numbers, out),
+        2 => print::sentence(b"refused A B: the degree is D\n", numbers, out),
+        3 => print::sentence(b"refused A B: the list has F vectors\n", numbers, out),
+        4 => print::sentence(b"refused A B: L is E\n", numbers, out),
+        6 => print::sentence(b"refused A B: vector B is G\n", numbers, out),
+        7 => print::sentence(
+            b"refused A B: vector B is G, and so is vector H\n",
+            numbers,
+            out,
+        ),
+        11 => print::sentence(
+            b"refused A B: 24 variables do not tell the vectors apart\n",
+            numbers,
+            out,
+        ),
+        13 => print::sentence(b"refused A B: row B has no place\n", numbers, out),
+        _ => print::sentence(b"refused A B\n", numbers, out),
+    }
+}
+
 // Prints what the build of a list answered.
 fn say_built(built: Built, list: Input, vectors: &[u64], out: &mut [u8]) -> usize
     ensures { λ r. ⌜ printed r (now (out .exit)) ≡ fitted (builtText built (list .n) (list .degree) (list .cells) (now (vectors .entry))) (now (out .entry)) ⌝ }
@@ -95,27 +122,7 @@ fn say_built(built: Built, list: Input, vectors: &[u64], out: &mut [u8]) -> usiz
         vector,
         first as u64,
     ];
-    let refusal = built.refusal;
-    match refusal {
-        0 => print::sentence(b"good\n", &numbers, out),
-        1 => print::sentence(b"refused A B: n is C\n", &numbers, out),
-        2 => print::sentence(b"refused A B: the degree is D\n", &numbers, out),
-        3 => print::sentence(b"refused A B: the list has F vectors\n", &numbers, out),
-        4 => print::sentence(b"refused A B: L is E\n", &numbers, out),
-        6 => print::sentence(b"refused A B: vector B is G\n", &numbers, out),
-        7 => print::sentence(
-            b"refused A B: vector B is G, and so is vector H\n",
-            &numbers,
-            out,
-        ),
-        11 => print::sentence(
-            b"refused A B: 24 variables do not tell the vectors apart\n",
-            &numbers,
-            out,
-        ),
-        13 => print::sentence(b"refused A B: row B has no place\n", &numbers, out),
-        _ => print::sentence(b"refused A B\n", &numbers, out),
-    }
+    say_refusal(built.refusal, &numbers, out)
 }
 
 // Says in one line why a text is not taken, or that it is good: answers how many bytes that takes; 0, and nothing is written, where they do not fit.
