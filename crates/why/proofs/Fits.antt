@@ -1,7 +1,7 @@
 -- Every line that is written is short, so that a target of a page gets it whole. Assumes nothing.
-use Prim.Native.Nat.{ℕ, zero, suc, _+_, _-_, _^_, _≤_, _<_}
+use Prim.Native.Nat.{ℕ, zero, suc, _^_, _≤_, _<_}
 use native.Mathlib.Omega.{arith}
-use mathlib.Core.Path.{_≡_, refl, sym, ap, _∙_}
+use mathlib.Core.Path.{_≡_, refl, ap}
 use mathlib.Core.Bool.{Bool, true, false}
 use mathlib.Core.List.{List, [], _∷_, map}
 use borrow.Author.Tests.{leb-true}
@@ -16,7 +16,7 @@ use Rattle.build.specs.Build.{Outcome}
 use Rattle.build.proofs.Places.{chosen-place}
 use Rattle.input.specs.Fields.{fields}
 use Rattle.input.specs.Decimal.{maxNumber, valueOf, goodField}
-use Rattle.input.specs.Input.{maxText, maxListed, body, goodText, numbersIn}
+use Rattle.input.specs.Input.{maxListed, body, goodText, numbersIn}
 use Rattle.print.specs.Sentence.{sentence}
 use Rattle.print.proofs.Sentences.{widest, sentence-low}
 use Rattle.answer.specs.Make.{roomy, makeOf}

@@ -35,7 +35,7 @@ fn first_equal(v: u64, vectors: &[u64]) -> usize
     0
 }
 
-// Prints what is at fault with a text, and where.
+// Prints what is at fault with a text, and where. The causes have the numbers of crate `fault`.
 fn say_fault(fault: Fault, out: &mut [u8]) -> usize
     ensures { λ r. ⌜ printed r (now (out .exit)) ≡ fitted (faultText fault) (now (out .entry)) ⌝ }
 {
