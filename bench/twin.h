@@ -28,4 +28,13 @@ uint64_t twin_write(const uint64_t record[TWIN_RECORD_WORDS], const uint16_t *h,
 uint64_t twin_read(const uint8_t *file, size_t file_len, uint16_t *h, size_t h_len, uint16_t *g, size_t g_len, uint64_t *aux,
                    size_t aux_len, uint64_t record[TWIN_RECORD_WORDS]);
 
+uint64_t twin_profiles_build(size_t degree, size_t L, const uint32_t (*keys)[5], size_t count, uint16_t *h, size_t h_len, uint16_t *g,
+                             size_t g_len, uint64_t *aux, size_t aux_len, uint64_t record[TWIN_RECORD_WORDS]);
+
+uint64_t twin_profile(const uint64_t brand[TWIN_RECORD_WORDS], const uint16_t *brand_h, size_t brand_h_len, const uint16_t *brand_g,
+                      size_t brand_g_len, const uint64_t *brand_aux, size_t brand_aux_len, const uint8_t *brand_slab,
+                      size_t brand_slab_len, size_t brand_size, const uint64_t house[TWIN_RECORD_WORDS], const uint16_t *house_h,
+                      size_t house_h_len, const uint16_t *house_g, size_t house_g_len, const uint64_t *house_aux, size_t house_aux_len,
+                      const uint8_t *house_slab, size_t house_slab_len, size_t house_size, const uint32_t key[5]);
+
 #endif

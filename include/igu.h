@@ -1,14 +1,16 @@
 /* The index generation unit for C: a list of k different vectors of n bits, numbered 1 to k, turned into three small tables
  * H, G and AUX, so that a key gives its number, or 0, with one addition.
  *
- * The functions are proved, in crate bridge; docs/PROMISES.md names the definition that each one equals. The refusals are those of
- * README.md. None has a condition on numbers: every call ends, with an answer or a refusal, if the caller keeps to this:
+ * The functions are proved, in crate bridge and, those for profile keys, in crate engine, each with an archive of its own;
+ * docs/PROMISES.md names the definition that each one equals. The refusals are those of README.md. None has a condition on numbers: every
+ * call ends, with an answer or a refusal, if the caller keeps to this:
  *
- * Memory. Every pointer is aligned and not null, also with length 0, and is good for as many elements as its length says (or 40, 24 or
- * 1, as the declaration says). Memory that a call writes overlaps no other memory of that call.
+ * Memory. Every pointer is aligned and not null, also with length 0, and is good for as many elements as its length says (or 40, 24, 5
+ * or 1, as the declaration says). Memory that a call writes overlaps no other memory of that call.
  *
- * Stack. A call needs at most this much of it: igu_build 80 KB, igu_build_given 20 KB, igu_write 3 KB, igu_read, igu_recover and
- * igu_lookup 2 KB. With less it can end the process, as igu_build does on a stack of 64 KB. docs/FIGURES.md has what was measured.
+ * Stack. A call needs at most this much of it: igu_profiles_build 90 KB, igu_build 80 KB, igu_build_given 20 KB, igu_write 3 KB, igu_read,
+ * igu_recover, igu_lookup and igu_profile 2 KB. With less it can end the process, as igu_build does on a stack of 64 KB. docs/FIGURES.md
+ * has what was measured.
  *
  * Threads. The functions keep nothing between calls. Calls may run in several threads at once, as long as no call writes memory that
  * another one is using: each build has a record and tables of its own; the other calls may share those of a build that has ended, each
@@ -87,6 +89,29 @@ uint64_t igu_write(const uint64_t record[IGU_RECORD_WORDS], const uint16_t *h, s
  * 8,192 and 1,024 always suffice). */
 uint64_t igu_read(const uint8_t *file, size_t file_len, uint16_t *h, size_t h_len, uint16_t *g, size_t g_len, uint64_t *aux,
                   size_t aux_len, uint64_t record[IGU_RECORD_WORDS]);
+
+/* The key of a profile, for the separation engine, is five words: press (8 bits), ink (12), substrate (12), screen (8) and the calibration
+ * day, counted from 1 January 2000 (16). A field may be over its width, which is refused. */
+#define IGU_KEY_WORDS 5
+
+/* Builds the unit of a list of keys, as igu_build does for their words: n is 56, and the fields stand side by side in the order above,
+ * press from bit 0. Needs, returns and leaves what igu_build does; before any other refusal it gives 30, place 0, where a key has a field
+ * over its width. The refusals 1 and 6 do not arise. */
+uint64_t igu_profiles_build(size_t degree, size_t L, const uint32_t (*keys)[IGU_KEY_WORDS], size_t count, uint16_t *h, size_t h_len,
+                            uint16_t *g, size_t g_len, uint64_t *aux, size_t aux_len, uint64_t record[IGU_RECORD_WORDS]);
+
+/* Says where the profile of a key is. The brand owner's slab and the house's each have profiles of equal length, size bytes, one for each
+ * key of their unit, in the order of its list. Returns refusal + 256 * number + 2^32 * slab: the profile with this number, from 1, begins
+ * (number - 1) * size bytes into the brand's slab where slab is 1 and the house's where it is 0. With units as igu_profiles_build left
+ * them, or as igu_read gave them back: the number of the key in the brand's list; in the house's list where the brand's has not got it; 0,
+ * and slab 0, where neither has. Refusals, beside which number and slab are 0: 30 a field over its width; 31 a size of 0, or a slab with
+ * fewer profiles than its record says keys, either slab; then those of igu_lookup, the brand's before the house's. Reads no byte of a slab,
+ * and writes nothing. */
+uint64_t igu_profile(const uint64_t brand[IGU_RECORD_WORDS], const uint16_t *brand_h, size_t brand_h_len, const uint16_t *brand_g,
+                     size_t brand_g_len, const uint64_t *brand_aux, size_t brand_aux_len, const uint8_t *brand_slab,
+                     size_t brand_slab_len, size_t brand_size, const uint64_t house[IGU_RECORD_WORDS], const uint16_t *house_h,
+                     size_t house_h_len, const uint16_t *house_g, size_t house_g_len, const uint64_t *house_aux, size_t house_aux_len,
+                     const uint8_t *house_slab, size_t house_slab_len, size_t house_size, const uint32_t key[IGU_KEY_WORDS]);
 
 #ifdef __cplusplus
 }

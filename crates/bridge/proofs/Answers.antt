@@ -4,6 +4,7 @@ use native.Mathlib.Omega.{arith}
 use mathlib.Core.Path.{_≡_, refl, sym, ap, ap₂, _∙_}
 use mathlib.Core.Bool.{Bool, true, false, cond}
 use mathlib.Core.List.{List, map}
+use lib.ListN.{getD}
 use Rattle.vectors.specs.declared.Variable.{Variable}
 use Rattle.build.specs.declared.Built.{Built}
 use Rattle.lookup.specs.declared.Found.{Found}
@@ -14,7 +15,9 @@ use Rattle.build.specs.Build.{Outcome, after, buildChosen, buildGiven}
 use Rattle.lookup.specs.Lookup.{notFound, lookupOf}
 use Rattle.recover.specs.Recover.{notRecovered, recoverOf}
 use Rattle.build.proofs.Places.{placeLimit}
+use Rattle.record.specs.Formed.{wellFormed}
 use Rattle.lookup.proofs.Indices.{found-index}
+use Rattle.lookup.proofs.Lookups.{lookup-unformed}
 use Rattle.file.specs.declared.Written.{Written}
 use Rattle.file.specs.Write as file
 use Rattle.file.specs.Write.{writeOf}
@@ -22,7 +25,7 @@ use Rattle.file.proofs.Outcomes.{written-few}
 use Rattle.file.specs.Read.{Reading, readOf}
 use Rattle.load.specs.declared.Loaded.{Loaded}
 use Rattle.load.specs.Load as load
-use Rattle.bridge.specs.Flat.{variableAt, flatOf, variableWords, unitAt, allInRange}
+use Rattle.bridge.specs.Flat.{variableAt, flatOf, variableWords, unitAt, allInRange, unreadable, unitSeen}
 use Rattle.bridge.specs.Calls.{answer, left, leftBy, buildCall, givenCall, foundIn, recoveredIn, lookupCall, Filed, filed, filedBy, writeCall, readCall}
 
 -- ---- the builds
@@ -52,16 +55,17 @@ module _ (words : List ℕ) (t : Tables) (x : ℕ) where
   abbrev recoveredBy : Bool → Recovered
   recoveredBy b = cond b (recoverOf (unitAt words) t x) (notRecovered 14)
 
-  pub found-unread : allInRange (variableWords words) ≡ false → 14 ≡ lookupCall words t x
-  unfolding lookupCall foundIn
-  found-unread e = sym (ap (λ (b : Bool). answer (foundBy b .refusal) (foundBy b .index)) e)
+  pub found-unread : allInRange (variableWords words) ≡ false → notFound 14 ≡ foundIn words t x
+  unfolding foundIn
+  found-unread e = sym (ap foundBy e)
 
-  pub found-read : (u : Record) (f : Found) (a : ℕ) → allInRange (variableWords words) ≡ true → u ≡ unitAt words → f ≡ lookupOf u t x → a ≡ answer (f .refusal) (f .index)
-      → a ≡ lookupCall words t x
-  unfolding lookupCall foundIn
-  found-read u f a e v l i =
-      let same : f ≡ foundBy (allInRange (variableWords words)) = l ∙ ap (λ (u : Record). lookupOf u t x) v ∙ sym (ap foundBy e) in
-      i ∙ ap (λ (f : Found). answer (f .refusal) (f .index)) same
+  pub found-read : (u : Record) (f : Found) → allInRange (variableWords words) ≡ true → u ≡ unitAt words → f ≡ lookupOf u t x → f ≡ foundIn words t x
+  unfolding foundIn
+  found-read u f e v l = l ∙ ap (λ (u : Record). lookupOf u t x) v ∙ sym (ap foundBy e)
+
+  pub found-called : (f : Found) (a : ℕ) → f ≡ foundIn words t x → a ≡ answer (f .refusal) (f .index) → a ≡ lookupCall words t x
+  unfolding lookupCall
+  found-called f a e i = i ∙ ap (λ (f : Found). answer (f .refusal) (f .index)) e
 
   pub recovered-unread : allInRange (variableWords words) ≡ false → notRecovered 14 ≡ recoveredIn words t x
   unfolding recoveredIn
@@ -71,8 +75,31 @@ module _ (words : List ℕ) (t : Tables) (x : ℕ) where
   unfolding recoveredIn
   recovered-read u r e v l = l ∙ ap (λ (u : Record). recoverOf u t x) v ∙ sym (ap recoveredBy e)
 
-pub index-fits : (u : Record) (t : Tables) (x : ℕ) (f : Found) → f ≡ lookupOf u t x → f .index < 65536
-index-fits u t x f e = omega (arith, found-index u t x, ap (λ (f : Found). f .index) e)
+-- ---- a unit as any record says it
+
+-- lookup by it is the call's
+pub seen-found : (words : List ℕ) (t : Tables) (x : ℕ) → lookupOf (unitSeen words) t x ≡ foundIn words t x
+unfolding unitSeen foundIn wellFormed
+seen-found words t x = go (allInRange (variableWords words))
+  where
+    go : (b : Bool) → lookupOf (cond b (unitAt words) (unreadable (getD words 3 0))) t x ≡ cond b (lookupOf (unitAt words) t x) (notFound 14)
+    go true = refl
+    go false = sym (lookup-unformed (unreadable (getD words 3 0)) t x refl)
+
+pub seen-read : (words : List ℕ) → allInRange (variableWords words) ≡ true → unitAt words ≡ unitSeen words
+unfolding unitSeen
+seen-read words e = rw e
+
+pub seen-keys : (words : List ℕ) → unitSeen words .k ≡ getD words 3 0
+unfolding unitSeen unitAt
+seen-keys words = go (allInRange (variableWords words))
+  where
+    go : (b : Bool) → cond b (unitAt words) (unreadable (getD words 3 0)) .k ≡ getD words 3 0
+    go true = refl
+    go false = refl
+
+pub index-fits : (words : List ℕ) (t : Tables) (x : ℕ) (f : Found) → f ≡ foundIn words t x → f .index < 65536
+index-fits words t x f e = omega (arith, found-index (unitSeen words) t x, ap (λ (f : Found). f .index) (e ∙ sym (seen-found words t x)))
 
 -- ---- writing a file
 

@@ -25,7 +25,7 @@ use Rattle.record.proofs.Excesses.{excess-fits}
 use Rattle.bridge.specs.Flat.{variableAt, variableWords, allInRange, flatOf, unitAt}
 use Rattle.bridge.specs.Calls.{answer, leftBy, buildCall, givenCall}
 use Rattle.bridge.specs.Boundary.{Exact}
-use Rattle.bridge.proofs.Answers.{build-left, given-left, found-read, recovered-read}
+use Rattle.bridge.proofs.Answers.{build-left, given-left, found-read, found-called, recovered-read}
 use Rattle.bridge.proofs.Carried.{made, variables-carried, carried, carried-range}
 
 -- ---- what an accepted build leaves
@@ -78,7 +78,7 @@ module _ (n : ℕ) (vs : List ℕ) (o : Outcome) (d : Demand2 lookupOf recoverOf
       record {
         lookup-exact = λ e x l.
             let z = no-refusal (o .built .refusal) (o .built .place) e in
-            sym (found-read (flatOf (o .built .unit)) (o .tables) x (o .built .unit) (found (indexOf vs x)) (256 * indexOf vs x) (c z .1) (sym (c z .0)) (sym (d .lookup-exact z x l)) (omega arith));
+            sym (found-called (flatOf (o .built .unit)) (o .tables) x (found (indexOf vs x)) (256 * indexOf vs x) (found-read (flatOf (o .built .unit)) (o .tables) x (o .built .unit) (found (indexOf vs x)) (c z .1) (sym (c z .0)) (sym (d .lookup-exact z x l))) (omega arith));
         recovery-exact = λ e i l.
             let z = no-refusal (o .built .refusal) (o .built .place) e in
             sym (recovered-read (flatOf (o .built .unit)) (o .tables) (suc i) (o .built .unit) (recovered (getD vs i 0)) (c z .1) (sym (c z .0)) (sym (d .recovery-exact z i l)));

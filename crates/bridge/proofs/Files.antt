@@ -61,29 +61,32 @@ module _ (n : ℕ) (vs : List ℕ) (o : Outcome) (flat : Carried o) (held : o .b
       ap (λ (r : Reading). r .refusal) (read-written unit (o .tables) into h (roomy-long unit (o .tables) into h roomy))
 
   -- the bytes that were written
-  front : o .built .refusal ≡ 0 → (target : List ℕ) → longestFile ≤ length target
+  pub front : o .built .refusal ≡ 0 → (target : List ℕ) → longestFile ≤ length target
       → take (writeCall (flatOf unit) (o .tables) target .answer / 256) (writeCall (flatOf unit) (o .tables) target .target) ≡ bytes
   front z target room =
       let d : 256 * length bytes / 256 ≡ length bytes = omega arith in
       ap (λ (f : Filed). take (f .answer / 256) (f .target)) (written z target room)
       ∙ ap (λ (i : ℕ). take i (over bytes target)) d ∙ take-at bytes (drop (length bytes) target) (length bytes) refl
 
-  read-left : (z : o .built .refusal ≡ 0) → o .built .place ≡ 0 → (into : Tables) → Roomy into → readCall bytes into ≡ leftBy (facts.carried readOf into o)
+  pub read-left : (z : o .built .refusal ≡ 0) → o .built .place ≡ 0 → (into : Tables) → Roomy into → readCall bytes into ≡ leftBy (facts.carried readOf into o)
   unfolding readCall
   read-left z q into roomy =
       let r : Reading = readOf bytes into in
       let e : r .refusal ≡ answer (o .built .refusal) (o .built .place) = none-refused z into roomy ∙ omega arith in
       ap (λ (a : ℕ). left a (flatOf (r .unit)) (r .tables)) e
 
+  -- the record that is read is carried too
+  pub flat-read : o .built .refusal ≡ 0 → (into : Tables) → Roomy into → Carried (facts.carried readOf into o)
+  flat-read z into roomy y = rw (unit-read z into roomy) (flat z)
+
   carries : Carries n vs (leftBy o)
   carries e target into room roomy =
       let z = no-refusal (o .built .refusal) (o .built .place) e in
       let q : o .built .place ≡ 0 = omega arith in
-      let flat-read : Carried (facts.carried readOf into o) = λ y. rw (unit-read z into roomy) (flat z) in
       let f = front z target room in
       let l = read-left z q into roomy in
       subst (λ (x : List ℕ). (readCall x into .answer ≡ 0) × Exact n vs (readCall x into)) (sym f)
-      (subst (λ (y : Left). (y .answer ≡ 0) × Exact n vs y) (sym l) (e, exact n vs (facts.carried readOf into o) (demand into roomy) flat-read))
+      (subst (λ (y : Left). (y .answer ≡ 0) × Exact n vs y) (sym l) (e, exact n vs (facts.carried readOf into o) (demand into roomy) (flat-read z into roomy)))
 
 pub build-carries : (n degree cells : ℕ) (vs : List ℕ) (t : Tables) → Carries n vs (buildCall n degree cells vs t)
 build-carries n degree cells vs t =

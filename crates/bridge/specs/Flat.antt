@@ -3,6 +3,7 @@ use Prim.Native.Nat.{ℕ, _+_, _*_, _/_, _%_, _^_}
 use mathlib.Core.Bool.{Bool, true, cond, _&&_}
 use mathlib.Core.List.{List, [], _∷_, _++_, map}
 use lib.Dec.{eqb, ltb}
+use lib.IntN.{pos}
 use lib.ListN.{getD, take, drop, replicate}
 use mir.Syntax.{w64}
 use mir.Val.{toZ, ofZ}
@@ -77,3 +78,13 @@ unitAt words =
 unfoldable pub allInRange : List ℕ → Bool
 allInRange [] = true
 allInRange (w ∷ ws) = inRange w && allInRange ws
+
+-- a record of k vectors that lookup refuses as 14: no input
+abbrev pub unreadable : ℕ → Record
+unreadable k =
+    record { n = 0; p = 0; n1 = 0; k = k; cells = 0; kept = 0; tries = 0; excess = pos 0; variables = replicate maxVariables blankVariable }
+
+-- the unit of any record: one that is refused where a word is no variable's
+unfoldable pub unitSeen : List ℕ → Record
+unfolding allInRange unitAt
+unitSeen words = cond (allInRange (variableWords words)) (unitAt words) (unreadable (getD words 3 0))

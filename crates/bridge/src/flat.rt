@@ -16,7 +16,7 @@ use vectors::Part;
 use vectors::Variable;
 
 // The words of a flat record; variables stand in words 8 to 31.
-pub(crate) const WORDS: usize = 40;
+pub const WORDS: usize = 40;
 
 fn kind_word(kind: Kind) -> u64
     ensures { λ r. ⌜ (r ≡ spec.kindWord kind) × (r < 65536) ⌝ }
@@ -162,7 +162,7 @@ fn write_variables(variables: [Variable; MAX_VARIABLES], words: &mut [u64])
 }
 
 // The record of a unit.
-pub(crate) fn words(unit: Record) -> [u64; WORDS]
+pub fn words(unit: Record) -> [u64; WORDS]
     ensures { λ r. ⌜ r ≡ spec.flatOf unit ⌝ }
 {
     let mut w = [0u64; WORDS];

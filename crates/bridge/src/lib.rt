@@ -2,11 +2,12 @@
 ghost use mathlib.Core.Path.{_≡_};
 ghost use mathlib.Core.List.{_∷_, []};
 ghost use Rattle.record.specs.Tables.{lent};
-ghost use Rattle.bridge.specs.Calls.{left, buildCall, givenCall, lookupCall, recoveredIn, filed, writeCall, readCall};
+ghost use Rattle.bridge.specs.Calls.{left, buildCall, givenCall, foundIn, lookupCall, recoveredIn, filed, writeCall, readCall};
 use flat::WORDS;
+use unit::Found;
 use vectors::MAX_VARIABLES;
 
-mod flat;
+pub mod flat;
 
 // The build that chooses its variables. The answer is the refusal and 256 times the place.
 #[no_mangle]
@@ -54,17 +55,28 @@ pub extern "C" fn igu_build_given(
     flat::answer(built.refusal, built.place)
 }
 
+// What lookup gives by a record; 14 where a word of the variables is out of range.
+pub fn find(words: &[u64; WORDS], h: &[u16], g: &[u16], aux: &[u64], x: u64) -> Found
+    ensures { λ r. ⌜ r ≡ foundIn (now (words .entry)) (lent (now (h .entry)) (now (g .entry)) (now (aux .entry))) x ⌝ }
+{
+    if !flat::readable(words) {
+        return Found {
+            refusal: 14,
+            place: 0,
+            index: 0,
+        };
+    }
+    let all = &words[..];
+    let variables = flat::variables(&all[8..32]);
+    unit::lookup(flat::unit(words, variables), h, g, aux, x)
+}
+
 // The refusal and 256 times the number of the registered vector x, or 0.
 #[no_mangle]
 pub extern "C" fn igu_lookup(words: &[u64; WORDS], h: &[u16], g: &[u16], aux: &[u64], x: u64) -> u64
     ensures { λ r. ⌜ r ≡ lookupCall (now (words .entry)) (lent (now (h .entry)) (now (g .entry)) (now (aux .entry))) x ⌝ }
 {
-    if !flat::readable(words) {
-        return 14;
-    }
-    let all = &words[..];
-    let variables = flat::variables(&all[8..32]);
-    let found = unit::lookup(flat::unit(words, variables), h, g, aux, x);
+    let found = find(words, h, g, aux, x);
     flat::answer(found.refusal, found.index)
 }
 

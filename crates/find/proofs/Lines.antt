@@ -14,8 +14,8 @@ use Rattle.lists.proofs.Tests.{and-true}
 use Rattle.print.specs.Line.{newline}
 use Rattle.print.specs.Print.{maxBytes}
 use Rattle.find.specs.declared.keys.Key.{Key}
-use Rattle.find.specs.Keys.{maxKeys, noKey, keyOf, keysFrom, keysIn, goodKeys, valuesIn}
-use Rattle.find.specs.Inner.{lineLength, ReadAs}
+use Rattle.find.specs.Keys.{maxKeys, noKey, keyOf, keysFrom, keysIn, goodKeys, valuesIn, lineLength}
+use Rattle.find.specs.Inner.{ReadAs}
 
 -- ---- how long the first line is
 

@@ -10,8 +10,10 @@ use borrow.Author.Tests.{eq-eqb, ne-eqb, le-leb, lt-leb, lt-ltb, le-ltb}
 use lib.Dec.{eqb, leb, ltb}
 use lib.ListN.{length, getD, take, drop, length-drop}
 use lib.Seq.{drop-cons, drop-length, take-all}
+use Rattle.dated.specs.declared.Dated.{Dated}
+use Rattle.dated.specs.Dated.{datedOf}
 use Rattle.find.specs.declared.keys.Key.{Key}
-use Rattle.find.specs.Keys.{maxKey, digitOf, noKey, numeralFrom, numeralOf, marked, keyOf}
+use Rattle.find.specs.Keys.{maxKey, digitOf, noKey, numeralFrom, numeralOf, marked, numberOf, profileOf, keyOf}
 
 pub numeral-none : (base : ℕ) (bytes : List ℕ) → length bytes ≡ 0 → noKey ≡ numeralOf base bytes
 unfolding numeralOf
@@ -74,9 +76,9 @@ module _ (base : ℕ) (bytes : List ℕ) where
 -- ---- with and without the mark 0x
 
 module _ (word : List ℕ) where
-  plain : marked word ≡ false → numeralOf 10 word ≡ keyOf word
-  unfolding keyOf
-  plain m = rw (m, keyOf)
+  plain : marked word ≡ false → numeralOf 10 word ≡ numberOf word
+  unfolding numberOf
+  plain m = rw (m, numberOf)
 
   and-none : (a b : Bool) → (a && (b && false)) ≡ false
   and-none true true = refl
@@ -87,17 +89,28 @@ module _ (word : List ℕ) where
   and-first true b = refl
   and-first false b = refl
 
-  pub key-short : length word < 2 → numeralOf 10 word ≡ keyOf word
+  pub key-short : length word < 2 → numeralOf 10 word ≡ numberOf word
   key-short h = plain (rw (lt-leb 2 (length word) h))
 
-  pub key-first : (getD word 0 0 ≡ 48 → ⊥) → numeralOf 10 word ≡ keyOf word
+  pub key-first : (getD word 0 0 ≡ 48 → ⊥) → numeralOf 10 word ≡ numberOf word
   key-first n = plain (rw (ne-eqb (getD word 0 0) 48 n) (and-first (leb 2 (length word)) (eqb (getD word 1 0) 120)))
 
-  pub key-second : (getD word 1 0 ≡ 120 → ⊥) → numeralOf 10 word ≡ keyOf word
+  pub key-second : (getD word 1 0 ≡ 120 → ⊥) → numeralOf 10 word ≡ numberOf word
   key-second n = plain (rw (ne-eqb (getD word 1 0) 120 n) (and-none (leb 2 (length word)) (eqb (getD word 0 0) 48)))
 
-  pub key-marked : 2 ≤ length word → getD word 0 0 ≡ 48 → getD word 1 0 ≡ 120 → numeralOf 16 (take (length word - 2) (drop 2 word)) ≡ keyOf word
-  unfolding keyOf
+  pub key-marked : 2 ≤ length word → getD word 0 0 ≡ 48 → getD word 1 0 ≡ 120 → numeralOf 16 (take (length word - 2) (drop 2 word)) ≡ numberOf word
+  unfolding numberOf
   key-marked h a b =
       let m : marked word ≡ true = rw (le-leb 2 (length word) h, eq-eqb (getD word 0 0) 48 a, eq-eqb (getD word 1 0) 120 b) in
-      rw (m, keyOf) (ap (numeralOf 16) (take-all (length word - 2) (drop 2 word) (omega (arith, length-drop 2 word))))
+      rw (m, numberOf) (ap (numeralOf 16) (take-all (length word - 2) (drop 2 word) (omega (arith, length-drop 2 word))))
+
+-- ---- a profile key
+
+module _ (word : List ℕ) (d : Dated) (e : d ≡ datedOf word) where
+  pub key-number : d .good ≡ false → numberOf word ≡ keyOf word
+  unfolding keyOf
+  key-number g = rw (ap (λ (x : Dated). x .good) (sym e) ∙ g, keyOf)
+
+  pub key-profile : d .good ≡ true → profileOf d ≡ keyOf word
+  unfolding keyOf
+  key-profile g = rw (ap (λ (x : Dated). x .good) (sym e) ∙ g, keyOf) (ap profileOf e)

@@ -28,6 +28,9 @@ pub record Table : Type 0 where
   pub mark : found (ascii "0x\n") ≡ inputText
   pub letter : found (ascii "3a\n") ≡ inputText
   pub unended : found (ascii "20\n6") ≡ inputText
+  -- a profile key, and one whose day is over its width
+  pub dated : keyOf (ascii "3,1200,77,150,9815") ≡ record { good = true; value = 0x2657_96_04d_4b0_03 }
+  pub dated-wide : keyOf (ascii "3,1200,77,150,65536") ≡ noKey
   -- 2^64 - 1 and one more
   pub largest : keyOf (ascii "18446744073709551615") ≡ record { good = true; value = 18446744073709551615 }
   pub above : keyOf (ascii "18446744073709551616") ≡ noKey
@@ -46,6 +49,8 @@ samples =
       mark = refl;
       letter = refl;
       unended = refl;
+      dated = refl;
+      dated-wide = refl;
       largest = refl;
       above = refl;
       hex-largest = refl;

@@ -1,5 +1,5 @@
--- Keys written as words, a line each: decimal, or hexadecimal after 0x (SCOPE 14.18).
-use Prim.Native.Nat.{ℕ, _+_, _-_, _*_, _^_}
+-- Keys written as words, a line each: decimal, hexadecimal after 0x, or a profile key (SCOPE 14.18, 21.10).
+use Prim.Native.Nat.{ℕ, suc, _+_, _-_, _*_, _^_}
 use mathlib.Core.Bool.{Bool, true, false, cond, _&&_}
 use mathlib.Core.List.{List, [], _∷_, _++_, map}
 use lib.Dec.{eqb, leb, ltb}
@@ -7,6 +7,8 @@ use lib.ListN.{length, getD, drop}
 use Rattle.lists.specs.Members.{every}
 use Rattle.print.specs.Line.{newline}
 use Rattle.print.specs.Print.{maxBytes}
+use Rattle.dated.specs.declared.Dated.{Dated}
+use Rattle.dated.specs.Dated.{datedOf}
 use Rattle.find.specs.declared.keys.Key.{Key}
 
 -- the largest key that may be written
@@ -40,9 +42,24 @@ numeralOf base bs = elim (eqb (length bs) 0) [ true ↦ noKey | false ↦ numera
 abbrev pub marked : List ℕ → Bool
 marked word = leb 2 (length word) && (eqb (getD word 0 0) 48 && eqb (getD word 1 0) 120)
 
-unfoldable pub keyOf : List ℕ → Key
+-- a key that is one number
+unfoldable pub numberOf : List ℕ → Key
 unfolding numeralOf
-keyOf word = elim (marked word) [ true ↦ numeralOf 16 (drop 2 word) | false ↦ numeralOf 10 word ]
+numberOf word = elim (marked word) [ true ↦ numeralOf 16 (drop 2 word) | false ↦ numeralOf 10 word ]
+
+-- a profile key; none where a field is over its width
+abbrev pub profileOf : Dated → Key
+profileOf d = cond (d .wide) noKey (record { good = true; value = d .word })
+
+-- of either form
+unfoldable pub keyOf : List ℕ → Key
+unfolding numberOf datedOf
+keyOf word = elim (datedOf word .good) [ true ↦ profileOf (datedOf word) | false ↦ numberOf word ]
+
+-- how many bytes the first line has, without its newline
+unfoldable pub lineLength : List ℕ → ℕ
+lineLength [] = 0
+lineLength (b ∷ bs) = elim (eqb b newline) [ true ↦ 0 | false ↦ suc (lineLength bs) ]
 
 -- the keys of the lines, the bytes of the line in hand given apart; a last line that no newline ends is no key
 unfoldable pub keysFrom : List ℕ → List ℕ → List Key

@@ -1,9 +1,9 @@
-// Keys written as words, a line each: decimal, or hexadecimal after 0x.
+// Keys written as words, a line each: decimal, hexadecimal after 0x, or a profile key.
 ghost use mathlib.Core.Path.{_≡_};
 ghost use Prim.Native.Nat.{_≤_};
 ghost use lib.ListN.{length};
-ghost use Rattle.find.specs.Keys.{maxKeys, digitOf, numeralOf, keyOf};
-ghost use Rattle.find.specs.Inner.{lineLength, ReadAs};
+ghost use Rattle.find.specs.Keys.{maxKeys, digitOf, numeralOf, numberOf, keyOf, lineLength};
+ghost use Rattle.find.specs.Inner.{ReadAs};
 use print::MAX_BYTES;
 
 const MAX_KEY: u64 = 18446744073709551615;
@@ -69,8 +69,9 @@ fn numeral(base: u64, bytes: &[u8]) -> Key
     Key { good: true, value }
 }
 
-fn written(word: &[u8]) -> Key
-    ensures { λ r. ⌜ r ≡ keyOf (now (word .entry)) ⌝ }
+// A key that is one number.
+fn number(word: &[u8]) -> Key
+    ensures { λ r. ⌜ r ≡ numberOf (now (word .entry)) ⌝ }
 {
     if word.len() < 2 {
         return numeral(10, word);
@@ -84,8 +85,25 @@ fn written(word: &[u8]) -> Key
     numeral(16, &word[2..])
 }
 
+// A key of either form.
+fn written(word: &[u8]) -> Key
+    ensures { λ r. ⌜ r ≡ keyOf (now (word .entry)) ⌝ }
+{
+    let d = dated::read(word);
+    if !d.good {
+        return number(word);
+    }
+    if d.wide {
+        return NO_KEY;
+    }
+    Key {
+        good: true,
+        value: d.word,
+    }
+}
+
 // How many bytes the first line has, without its newline.
-fn line_length(text: &[u8]) -> usize
+pub fn line_length(text: &[u8]) -> usize
     ensures { λ r. ⌜ r ≡ lineLength (now (text .entry)) ⌝ }
 {
     let mut i = 0;

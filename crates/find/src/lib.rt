@@ -9,6 +9,8 @@ use unit::Record;
 
 mod keys;
 
+pub use keys::line_length;
+
 // How a search ends: the first refusal, and the number of its key; 0 and 0 where none is refused.
 struct Ended {
     refusal: u8,

@@ -1,3 +1,4 @@
+pub mod Opens
 pub mod Fields
 pub mod Decimal
 pub mod Input

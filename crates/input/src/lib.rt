@@ -5,6 +5,7 @@ ghost use mathlib.Core.List.{map};
 ghost use Prim.Native.Nat.{_+_, _≤_};
 ghost use lib.ListN.{length, drop};
 ghost use Rattle.input.specs.Fields.{fields};
+ghost use Rattle.input.specs.Opens.{opens as Opens·opens};
 ghost use Rattle.lists.specs.Members.{every};
 ghost use Rattle.input.specs.Decimal.{goodField, valueOf};
 ghost use Rattle.input.specs.Input.{maxText, bodyLength, inputFrom, inputOf, vectorsOf};
@@ -128,4 +129,21 @@ pub fn read(text: &[u8], vectors: &mut [u64]) -> Input
         return NO_INPUT;
     }
     numbers(&text[..size], &mut vectors[..listed])
+}
+
+// Whether the bytes begin with the word.
+pub fn opens(word: &[u8], bytes: &[u8]) -> bool
+    ensures { λ r. ⌜ r ≡ Opens·opens (now (word .entry)) (now (bytes .entry)) ⌝ }
+{
+    if bytes.len() < word.len() {
+        return false;
+    }
+    let mut i = 0;
+    while i < word.len() {
+        if word[i] != bytes[i] {
+            return false;
+        }
+        i += 1;
+    }
+    true
 }

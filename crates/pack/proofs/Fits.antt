@@ -23,7 +23,7 @@ module _ (n degree cells : ℕ) (vs : List ℕ) (t : Tables) where
   abbrev o : Outcome
   o = buildChosen n degree cells vs t
 
-  built-low : length (packed o) ≤ pageSize
+  pub built-low : length (packed o) ≤ pageSize
   built-low = go (eqb (o .built .refusal) 0) refl
     where
       go : (q : Bool) → eqb (o .built .refusal) 0 ≡ q → length (packed o) ≤ pageSize

@@ -19,8 +19,7 @@ use Rattle.file.proofs.Outcomes.{sound-write}
 use Rattle.answer.specs.Make.{Making, roomy, makeOf}
 use Rattle.answer.specs.Answer.{inputText}
 use Rattle.answer.proofs.Makes.{made-sound}
-use Rattle.pack.specs.Pack.{packed, packedOr, packOf}
-use Rattle.pack.specs.Inner.Outcome.{filed, packBuilt}
+use Rattle.pack.specs.Pack.{filed, packBuilt, packed, packedOr, packOf}
 
 -- a file in a target: a refusal 20 is no byte
 filled-fitted : (f out : List ℕ) → filed (write.filled f out) ≡ fitted f out
@@ -52,7 +51,7 @@ module _ (o : Outcome) where
   packed-refused n = rw (ne-eqb (o .built .refusal) 0 n, packed)
 
   -- a sound unit's file is written
-  built-packed : (out : List ℕ) → (o .built .refusal ≡ 0 → sound (o .built .unit) (o .tables) ≡ true) → packBuilt (o .built) (o .tables) out ≡ fitted (packed o) out
+  pub built-packed : (out : List ℕ) → (o .built .refusal ≡ 0 → sound (o .built .unit) (o .tables) ≡ true) → packBuilt (o .built) (o .tables) out ≡ fitted (packed o) out
   built-packed out s = go (eqb (o .built .refusal) 0) refl
     where
       go : (q : Bool) → eqb (o .built .refusal) 0 ≡ q → packBuilt (o .built) (o .tables) out ≡ fitted (packed o) out

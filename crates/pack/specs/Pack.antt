@@ -3,10 +3,14 @@ use Prim.Native.Nat.{ℕ}
 use mathlib.Core.Bool.{true, false}
 use mathlib.Core.List.{List}
 use lib.Dec.{eqb}
+use Rattle.record.specs.Tables.{Tables}
+use Rattle.build.specs.declared.Built.{Built}
 use Rattle.build.specs.Build.{Outcome}
 use Rattle.print.specs.Line.{line}
-use Rattle.print.specs.Print.{refusedText}
+use Rattle.print.specs.Print.{Printed, printed, fitted, refusedText}
 use Rattle.file.specs.File.{fileOf}
+use Rattle.file.specs.Write as write
+use Rattle.file.specs.Write.{writeOf}
 use Rattle.answer.specs.Make.{Making, roomy, makeOf}
 use Rattle.answer.specs.Answer.{inputText}
 
@@ -22,6 +26,19 @@ packed o =
       | true ↦ fileOf (o .built .unit) (o .tables)
       | false ↦ refusedText (o .built .refusal) (o .built .place)
     ]
+
+-- ---- what a call leaves that writes the file of what a build left
+
+-- as many bytes as the file has, and the target
+abbrev pub filed : write.Outcome → Printed
+filed o = printed (o .written .length) (o .target)
+
+unfoldable pub packBuilt : Built → Tables → List ℕ → Printed
+unfolding writeOf fitted
+packBuilt b t out =
+    elim (eqb (b .refusal) 0) [ true ↦ filed (writeOf (b .unit) t out) | false ↦ fitted (refusedText (b .refusal) (b .place)) out ]
+
+-- ---- the whole
 
 -- what is written for what a text left
 unfoldable pub packedOr : Making → List ℕ

@@ -2,12 +2,12 @@
 ghost use mathlib.Core.Path.{_≡_};
 ghost use Rattle.record.specs.Tables.{lent};
 ghost use Rattle.print.specs.Print.{printed, fitted};
-ghost use Rattle.pack.specs.Pack.{packOf};
-ghost use Rattle.pack.specs.Inner.Outcome.{packBuilt};
+ghost use Rattle.pack.specs.Pack.{packBuilt, packOf};
 use unit::Built;
 
-// Writes the file of what a build left, or its refusal.
-fn write_built(built: Built, h: &[u16], g: &[u16], aux: &[u64], out: &mut [u8]) -> usize
+// Writes the file of what a build left, or its refusal: answers how many bytes that takes; 0, and nothing is written, where they do not fit or
+// the unit is not sound.
+pub fn write_built(built: Built, h: &[u16], g: &[u16], aux: &[u64], out: &mut [u8]) -> usize
     ensures { λ r. ⌜ printed r (now (out .exit)) ≡ packBuilt built (lent (now (h .entry)) (now (g .entry)) (now (aux .entry))) (now (out .entry)) ⌝ }
 {
     if built.refusal == 0 {

@@ -1,12 +1,12 @@
 -- Everything written fits the page, so that a target of a page gets it whole. Assumes nothing.
-use Prim.Native.Nat.{ℕ, _^_, _≤_, _<_}
+use Prim.Native.Nat.{ℕ, _-_, _^_, _≤_, _<_}
 use native.Mathlib.Omega.{arith}
 use mathlib.Core.Path.{_≡_, refl, sym, ap, _∙_}
 use mathlib.Core.Bool.{Bool, true, false}
 use mathlib.Core.List.{List}
 use borrow.Author.Tests.{eqb-true, eqb-false}
 use lib.Dec.{eqb}
-use lib.ListN.{length, drop}
+use lib.ListN.{length, take, drop}
 use Rattle.record.specs.declared.Record.{Record}
 use Rattle.record.specs.Tables.{Tables}
 use Rattle.print.proofs.Pages.Sizes.{refused-low}
@@ -19,8 +19,10 @@ use Rattle.pack.proofs.Fits.{pack-fits}
 use Rattle.listing.proofs.Fits.{list-fits}
 use Rattle.find.proofs.Fits.{find-fits}
 use Rattle.why.proofs.Fits.{why-fits}
-use Rattle.words.specs.Words.{pageSize, opens, says, packWord, whyWord, showWord, listWord, findWord, asksFile, ofUnit, ofReading, ofFile, wordsOf}
-use Rattle.words.proofs.Writing.{file-refused, file-read, words-none, words-pack, words-why, words-file, words-other}
+use Rattle.keys.proofs.Fits.{keys-fits}
+use Rattle.input.specs.Opens.{opens}
+use Rattle.words.specs.Words.{pageSize, says, packWord, whyWord, keysWord, showWord, listWord, findWord, asksFile, ofUnit, ofReading, ofFile, wordsOf}
+use Rattle.words.proofs.Writing.{file-refused, file-read, words-none, words-pack, words-why, words-keys, words-file, words-other}
 
 unit-fits : (given : List ℕ) (u : Record) (t : Tables) → Loaded u t → length (ofUnit given u t) ≤ pageSize
 unfolding ofUnit
@@ -53,12 +55,16 @@ file-fits given file = go (eqb (r .refusal) 0) refl
 
 -- of all words and texts
 pub words-fits : (given text : List ℕ) → length (wordsOf given text) ≤ pageSize
-words-fits given text = go (eqb (length given) 0) refl (says packWord given) refl (says whyWord given) refl (asksFile given) refl
+words-fits given text = go (eqb (length given) 0) refl (says packWord given) refl (says whyWord given) refl (opens keysWord given) refl (asksFile given) refl
   where
-    go : (a : Bool) → eqb (length given) 0 ≡ a → (b : Bool) → says packWord given ≡ b → (w : Bool) → says whyWord given ≡ w → (c : Bool) → asksFile given ≡ c
-        → length (wordsOf given text) ≤ pageSize
-    go true p b q w v c r = omega (arith, answer-fits text, ap length (words-none given text (eqb-true (length given) 0 p)))
-    go false p true q w v c r = omega (arith, pack-fits text, ap length (words-pack given text (eqb-false (length given) 0 p) q))
-    go false p false q true v c r = omega (arith, why-fits text, ap length (words-why given text (eqb-false (length given) 0 p) q v))
-    go false p false q false v true r = omega (arith, file-fits given text, ap length (words-file given text (eqb-false (length given) 0 p) q v r))
-    go false p false q false v false r = omega (arith, ap length (words-other given text (eqb-false (length given) 0 p) q v r))
+    rest : List ℕ
+    rest = take (length given - length keysWord) (drop (length keysWord) given)
+
+    go : (a : Bool) → eqb (length given) 0 ≡ a → (b : Bool) → says packWord given ≡ b → (w : Bool) → says whyWord given ≡ w → (k : Bool) → opens keysWord given ≡ k
+        → (c : Bool) → asksFile given ≡ c → length (wordsOf given text) ≤ pageSize
+    go true p b q w v k u c r = omega (arith, answer-fits text, ap length (words-none given text (eqb-true (length given) 0 p)))
+    go false p true q w v k u c r = omega (arith, pack-fits text, ap length (words-pack given text (eqb-false (length given) 0 p) q))
+    go false p false q true v k u c r = omega (arith, why-fits text, ap length (words-why given text (eqb-false (length given) 0 p) q v))
+    go false p false q false v true u c r = omega (arith, keys-fits rest text, ap length (words-keys given text (eqb-false (length given) 0 p) q v u))
+    go false p false q false v false u true r = omega (arith, file-fits given text, ap length (words-file given text (eqb-false (length given) 0 p) q v u r))
+    go false p false q false v false u false r = omega (arith, ap length (words-other given text (eqb-false (length given) 0 p) q v u r))

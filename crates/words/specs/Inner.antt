@@ -8,7 +8,8 @@ use Rattle.record.specs.Tables.{Tables}
 use Rattle.print.specs.Print.{Printed, fitted, printOf}
 use Rattle.listing.specs.Listing.{listText}
 use Rattle.find.specs.Find.{findText}
-use Rattle.words.specs.Words.{opens, says, showWord, listWord, findWord}
+use Rattle.input.specs.Opens.{opens}
+use Rattle.words.specs.Words.{says, showWord, listWord, findWord}
 
 -- what a call leaves that prints a unit, its list or its keys
 unfoldable pub unitPrinted : List ℕ → Record → Tables → List ℕ → Printed

@@ -6,6 +6,7 @@ use lib.Dec.{eqb}
 use lib.ListN.{length, drop}
 use Rattle.record.specs.declared.Record.{Record}
 use Rattle.record.specs.Tables.{Tables}
+use Rattle.input.specs.Opens.{opens}
 use Rattle.print.specs.Ascii.{ascii}
 use Rattle.print.specs.Line.{line}
 use Rattle.print.specs.Print.{textOf, refusedText}
@@ -16,16 +17,11 @@ use Rattle.pack.specs.Pack.{packOf}
 use Rattle.listing.specs.Listing.{listText}
 use Rattle.find.specs.Find.{findText}
 use Rattle.why.specs.Why.{whyOf}
+use Rattle.keys.specs.Keys.{keysOf}
 
 -- bytes that everything written fits into
 abbrev pub pageSize : ℕ
 pageSize = 131072
-
--- whether the bytes begin with the word
-unfoldable pub opens : List ℕ → List ℕ → Bool
-opens [] bytes = true
-opens (w ∷ ws) [] = false
-opens (w ∷ ws) (b ∷ bs) = eqb w b && opens ws bs
 
 -- whether the bytes are the word
 abbrev pub says : List ℕ → List ℕ → Bool
@@ -36,6 +32,9 @@ packWord = ascii "pack\n"
 
 abbrev pub whyWord : List ℕ
 whyWord = ascii "why\n"
+
+abbrev pub keysWord : List ℕ
+keysWord = ascii "keys\n"
 
 abbrev pub showWord : List ℕ
 showWord = ascii "show\n"
@@ -78,11 +77,11 @@ unfoldable pub otherwise : List ℕ → List ℕ → List ℕ
 unfolding asksFile ofFile
 otherwise given text = elim (asksFile given) [ true ↦ ofFile given text | false ↦ inputText ]
 
--- no word: the unit of a list printed; `pack`: its file; `why`: what is wrong with it
+-- no word: the unit of a list printed; `pack`: its file; `why`: what is wrong with it; `keys`, with degree and L behind it or alone: the file of the unit of a list of profile keys
 unfoldable pub wordsOf : List ℕ → List ℕ → List ℕ
-unfolding answerOf packOf whyOf opens otherwise
+unfolding answerOf packOf whyOf keysOf opens otherwise
 wordsOf given text =
     elim (eqb (length given) 0) [
       | true ↦ answerOf text
-      | false ↦ elim (says packWord given) [ true ↦ packOf text | false ↦ elim (says whyWord given) [ true ↦ whyOf text | false ↦ otherwise given text ] ]
+      | false ↦ elim (says packWord given) [ true ↦ packOf text | false ↦ elim (says whyWord given) [ true ↦ whyOf text | false ↦ elim (opens keysWord given) [ true ↦ keysOf (drop (length keysWord) given) text | false ↦ otherwise given text ] ] ]
     ]

@@ -3,29 +3,12 @@ ghost use mathlib.Core.Path.{_≡_};
 ghost use mathlib.Core.Bool.{true};
 ghost use Rattle.record.specs.Tables.{lent};
 ghost use Rattle.print.specs.Print.{printed, fitted};
-ghost use Rattle.words.specs.Words.{opens as Words·opens, says as Words·says, asksFile, ofFile, wordsOf};
+ghost use Rattle.words.specs.Words.{says as Words·says, asksFile, ofFile, wordsOf};
 ghost use Rattle.words.specs.Inner.{unitPrinted};
 use unit::Record;
 
 // Bytes that everything written fits into (`pageSize`).
 pub const PAGE: usize = answer::PAGE;
-
-// Whether the bytes begin with the word.
-fn opens(word: &[u8], bytes: &[u8]) -> bool
-    ensures { λ r. ⌜ r ≡ Words·opens (now (word .entry)) (now (bytes .entry)) ⌝ }
-{
-    if bytes.len() < word.len() {
-        return false;
-    }
-    let mut i = 0;
-    while i < word.len() {
-        if word[i] != bytes[i] {
-            return false;
-        }
-        i += 1;
-    }
-    true
-}
 
 // Whether the bytes are the word.
 fn says(word: &[u8], bytes: &[u8]) -> bool
@@ -34,7 +17,7 @@ fn says(word: &[u8], bytes: &[u8]) -> bool
     if bytes.len() != word.len() {
         return false;
     }
-    opens(word, bytes)
+    input::opens(word, bytes)
 }
 
 // Whether the words are for the file of a unit.
@@ -47,7 +30,7 @@ fn asks_file(given: &[u8]) -> bool
     if says(b"list\n", given) {
         return true;
     }
-    opens(b"find\n", given)
+    input::opens(b"find\n", given)
 }
 
 // Prints a unit, its list, or the keys that come after `find`.
@@ -98,6 +81,9 @@ pub fn words(given: &[u8], text: &[u8], out: &mut [u8]) -> usize
     }
     if says(b"why\n", given) {
         return why::why(text, out);
+    }
+    if input::opens(b"keys\n", given) {
+        return keys::keys(&given[5..], text, out);
     }
     if !asks_file(given) {
         return print::text(b"input\n", out);

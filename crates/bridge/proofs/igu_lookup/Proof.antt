@@ -1,40 +1,14 @@
 -- `bridge::igu_lookup` meets its contract. Assumes nothing.
-use mathlib.Core.Path.{_≡_, sym, _∙_}
-use mathlib.Core.Bool.{true}
-use borrow.Author.Tests.{not-true, not-false}
-use Rattle.bridge.specs.Flat.{variableWords, allInRange}
-use Rattle.bridge.proofs.Answers.{found-unread, found-read, index-fits}
+use Rattle.bridge.proofs.Answers.{found-called, index-fits}
 use borrow.Author.Needs.{needs}
 use Rattle.bridge.proofs.igu_lookup.Statement.{statement}
 use Rattle.bridge.proofs.igu_lookup.Tie as tie
 
-returns : tie.Need-returns
-returns c = found-unread _ _ _ (sym (c .before .readable .ensures) ∙ not-true _ (c .if1 .taken))
-
--- the variable words are in range
-read : (c : tie.Else1) → allInRange (variableWords (c .before .before .before .before .before .args .words .now)) ≡ true
-read c = sym (c .before .readable .ensures) ∙ not-false _ (c .if1 .left)
-
-variables-requires : tie.Need-variables-requires
-variables-requires c κs = (search needs, read (c .before .before))
-
 answer-requires : tie.Need-answer-requires
-answer-requires c κs = index-fits _ _ _ _ (c .lookup .ensures)
+answer-requires c κs = index-fits _ _ _ _ (c .find .ensures)
 
-returns-2 : tie.Need-returns-2
-returns-2 c = found-read _ _ _ _ _ _ (read (c .before .before .before .before .before .before)) (c .before .before .unit .ensures) (c .before .lookup .ensures) (c .answer .ensures)
+returns : tie.Need-returns
+returns c = found-called _ _ _ _ _ (c .before .find .ensures) (c .answer .ensures)
 
 pub igu-lookup-spec : {M : Type 1} → statement M
-igu-lookup-spec =
-    tie.close
-    (tie.spec
-    (λ c κs. search needs)
-    returns
-    (λ c. search needs)
-    (λ c. search needs)
-    (λ c. search needs)
-    variables-requires
-    (λ c κs. search needs)
-    (λ c κs. search needs)
-    answer-requires
-    returns-2)
+igu-lookup-spec = tie.close (tie.spec (λ c κs. search needs) answer-requires returns)

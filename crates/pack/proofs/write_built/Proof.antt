@@ -1,7 +1,7 @@
 -- `pack::write_built` meets its contract. Assumes nothing.
 use mathlib.Core.Path.{ap, _∙_}
 use Rattle.record.specs.Tables.{lent}
-use Rattle.pack.specs.Inner.Outcome.{filed}
+use Rattle.pack.specs.Pack.{filed}
 use Rattle.pack.proofs.Packs.{built-accepted, built-refused}
 use borrow.Author.Needs.{needs}
 use Rattle.pack.proofs.write_built.Statement.{statement}

@@ -1,10 +1,10 @@
--- `words::opens` meets its contract. Assumes nothing.
+-- `input::opens` meets its contract. Assumes nothing.
 use Prim.Native.Nat.{_-_}
 use lib.ListN.{length}
-use Rattle.words.proofs.Tests.{Opening, opens-short, opening-none, opening-more, opening-other, opening-end}
+use Rattle.input.proofs.Opening.{Opening, opens-short, opening-none, opening-more, opening-other, opening-end}
 use borrow.Author.Needs.{needs}
-use Rattle.words.proofs.opens.Statement.{statement}
-use Rattle.words.proofs.opens.Tie as tie
+use Rattle.input.proofs.opens.Statement.{statement}
+use Rattle.input.proofs.opens.Tie as tie
 
 abbrev Inv-loop : tie.InvT-loop
 Inv-loop word bytes i₀ i = Opening word bytes i

@@ -1,2 +1,0 @@
--- What the contracts of inner functions cite, and no public contract.
-pub mod Outcome
