@@ -1,16 +1,17 @@
 /* The index generation unit for C: a list of k different vectors of n bits, numbered 1 to k, turned into three small tables
  * H, G and AUX, so that a key gives its number, or 0, with one addition.
  *
- * The functions are proved, in crate bridge and, those for profile keys, in crate engine, each with an archive of its own;
- * docs/PROMISES.md names the definition that each one equals. The refusals are those of README.md. None has a condition on numbers: every
- * call ends, with an answer or a refusal, if the caller keeps to this:
+ * The functions are proved, in crate bridge and, those for profile keys, in crate engine, each with its archive; docs/PROMISES.md names
+ * the definition that each one equals. The refusals are those of README.md. None has a condition on numbers: every call ends, with an
+ * answer or a refusal, if the caller keeps to this:
  *
  * Memory. Every pointer is aligned and not null, also with length 0, and is good for as many elements as its length says (or 40, 24, 5
  * or 1, as the declaration says). Memory that a call writes overlaps no other memory of that call.
  *
- * Stack. A call needs at most this much of it: igu_profiles_build 90 KB, igu_build 80 KB, igu_build_given 20 KB, igu_write 3 KB, igu_read,
- * igu_recover, igu_lookup and igu_profile 2 KB. With less it can end the process, as igu_build does on a stack of 64 KB. docs/FIGURES.md
- * has what was measured.
+ * Stack. A call needs at most this much of it: igu_profiles_build 90 KB, igu_build 80 KB, igu_build_given 20 KB, igu_write 3 KB,
+ * igu_read, igu_recover, igu_lookup and igu_profile 2 KB; while rows are placed, a build has at most 4 KB in use, and
+ * igu_profiles_build 8 KB more for its keys. With less it can end the process, as igu_build does on a stack of 64 KB.
+ * docs/FIGURES.md has what was measured.
  *
  * Threads. The functions keep nothing between calls. Calls may run in several threads at once, as long as no call writes memory that
  * another one is using: each build has a record and tables of its own; the other calls may share those of a build that has ended, each

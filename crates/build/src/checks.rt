@@ -5,10 +5,10 @@ ghost use mathlib.Core.Bool.{_||_};
 ghost use Prim.Native.Nat.{suc, _≤_};
 ghost use lib.Dec.{ltb};
 ghost use lib.ListN.{length, take};
-ghost use Rattle.lists.specs.First.{repeated};
 ghost use Rattle.vectors.specs.Bounds.{maxInputs, maxVectors, maxVariables};
 ghost use Rattle.vectors.specs.Masks.{numberBy};
 ghost use Rattle.vectors.specs.Variable.{numberOf};
+ghost use Rattle.repeats.specs.Repeats.{repeatedIn};
 ghost use Rattle.build.specs.Refusals.{firstBeyond, ladder, listChecks, givenChecks, refuseIf};
 ghost use Rattle.build.specs.Inner.Ready.{kindsBy};
 use crate::Chart;
@@ -99,11 +99,15 @@ fn numbers(masks: &[u64], vectors: &[u64], out: &mut [u64])
     }
 }
 
-// The number from 1 of the first vector that agrees with an earlier one on every variable; 0 for none.
+// The number from 1 of the first vector that agrees with an earlier one on every variable; 0 for none, and for more than 1,023 vectors.
 fn first_alike(chart: Chart, vectors: &[u64]) -> usize
-    requires { ⌜ (chart .p ≤ maxVariables) × (length (now vectors) ≤ maxVectors) ⌝ }
-    ensures { λ r. ⌜ r ≡ repeated (map (numberOf (kindsBy chart)) (now (vectors .entry))) ⌝ }
+    requires { ⌜ chart .p ≤ maxVariables ⌝ }
+    ensures { λ r. ⌜ r ≡ repeatedIn (map (numberOf (kindsBy chart)) (now (vectors .entry))) ⌝ }
 {
+    // By a call of itself, since the compiler inlines no function that does so: its arrays are given back before rows are placed.
+    if MAX_VECTORS < vectors.len() {
+        return first_alike(chart, &vectors[..0]);
+    }
     let k = vectors.len();
     let p = chart.p;
     let variables = chart.variables;

@@ -8,10 +8,13 @@ ghost use Rattle.vectors.specs.Bounds.{maxVectors};
 ghost use Rattle.choice.specs.Inner.Groups.{groupsOf, valueAt, Shape, GroupsAre, Room, Adds};
 use vectors::MAX_WORDS;
 
+// A group has two members or more.
+const MAX_GROUPS: usize = MAX_WORDS / 2;
+
 // The members, indices from 0, group after group, and how long each group is.
 pub(crate) struct Groups {
     pub order: [u16; MAX_WORDS],
-    pub sizes: [u16; MAX_WORDS],
+    pub sizes: [u16; MAX_GROUPS],
     pub members: usize,
     pub count: usize,
 }
@@ -28,7 +31,7 @@ pub(crate) fn all(k: usize) -> Groups
     ensures { λ r. ⌜ GroupsAre k (whole k) r ⌝ }
 {
     let mut order = [0u16; MAX_WORDS];
-    let mut sizes = [0u16; MAX_WORDS];
+    let mut sizes = [0u16; MAX_GROUPS];
     if k < 2 {
         return Groups {
             order,
@@ -94,7 +97,7 @@ pub(crate) fn refined(vectors: &[u64], mask: u64, groups: Groups) -> Groups
     let order = groups.order;
     let sizes = groups.sizes;
     let mut next = [0u16; MAX_WORDS];
-    let mut next_sizes = [0u16; MAX_WORDS];
+    let mut next_sizes = [0u16; MAX_GROUPS];
     let mut at = Extent {
         members: 0,
         count: 0,

@@ -30,7 +30,11 @@ pub struct Chosen {
 pub fn choose(vectors: &[u64], n: u8, degree: usize) -> Chosen
     ensures { λ r. ⌜ r ≡ chosenIn (now (vectors .entry)) n degree ⌝ }
 {
-    if vectors::outside(1, MAX_INPUTS, n as usize) || MAX_VECTORS < vectors.len() {
+    // By a call of itself, since the compiler inlines no function that does so: its arrays are given back before rows are placed.
+    if MAX_VECTORS < vectors.len() {
+        return choose(&vectors[..0], 0, degree);
+    }
+    if vectors::outside(1, MAX_INPUTS, n as usize) {
         let variables = vectors::blank_variables();
         return Chosen {
             variables,

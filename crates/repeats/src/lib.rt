@@ -36,8 +36,9 @@ fn seen(words: &[u64], next: &[u16; MAX_WORDS], from: usize, x: u64) -> bool
 pub fn first_repeat(words: &[u64]) -> usize
     ensures { λ r. ⌜ r ≡ repeatedIn (now (words .entry)) ⌝ }
 {
+    // By a call of itself, since the compiler inlines no function that does so: its arrays are given back before rows are placed.
     if MAX_VECTORS < words.len() {
-        return 0;
+        return first_repeat(&words[..0]);
     }
     let mut heads = [0u16; 2048];
     let mut next = [0u16; MAX_WORDS];

@@ -19,8 +19,8 @@ use Rattle.choice.specs.Choosing.{rowVariable, placed, chosenBy, noneCho
 
 -- ---- the bounds
 
-pub within : (vs : List ℕ) (n : ℕ) → outside 1 maxInputs n ≡ false → ltb maxVectors (length vs) ≡ false → (0 < n) × (n ≤ maxInputs) × (length vs ≤ maxVectors)
-within vs n e f = let o = or-false (ltb n 1) (ltb maxInputs n) e in (ltb-false n 1 (o .0), ltb-false maxInputs n (o .1), ltb-false maxVectors (length vs) f)
+pub within : (n : ℕ) → outside 1 maxInputs n ≡ false → (0 < n) × (n ≤ maxInputs)
+within n e = let o = or-false (ltb n 1) (ltb maxInputs n) e in (ltb-false n 1 (o .0), ltb-false maxInputs n (o .1))
 
 module _ (vs : List ℕ) (n degree : ℕ) where
   chosen-if : (b : Bool) → (outside 1 maxInputs n || ltb maxVectors (length vs)) ≡ b → chosenIn vs n degree ≡ cond b noneChosen (chosenBy vs n degree)

@@ -1,5 +1,5 @@
 -- Groups held in the arrays: the shape of a result, the group of all, and the groups split. Assumes nothing.
-use Prim.Native.Nat.{ℕ, zero, suc, _+_, _-_, _≤_, _<_}
+use Prim.Native.Nat.{ℕ, zero, suc, _+_, _-_, _*_, _≤_, _<_}
 use native.Mathlib.Omega.{arith}
 use mathlib.Core.Path.{_≡_, refl, sym, ap, subst, _∙_}
 use mathlib.Core.List.{List, [], _∷_, flatten, append-nil}
@@ -20,7 +20,7 @@ use Rattle.choice.proofs.Grouping.Cut.{cut-flatten, cut-members, cut-ma
 -- ---- the groups of the result
 
 pub holds-are : (k : ℕ) (gs : List (List ℕ)) (g : Groups) → Holds gs (g .order) (g .sizes) (record { members = g .members; count = g .count })
-    → All (λ l. 2 ≤ length l) gs → All (All (λ i. i < k)) gs → members gs ≤ k → k < length (g .order) → k < length (g .sizes) → GroupsAre k gs g
+    → All (λ l. 2 ≤ length l) gs → All (All (λ i. i < k)) gs → members gs ≤ k → k < length (g .order) → k < 2 * length (g .sizes) → GroupsAre k gs g
 holds-are k gs g s many low few o z =
     record {
       shape = record {
@@ -32,7 +32,7 @@ holds-are k gs g s many low few o z =
     }
 
 pub refined-are : (b : ℕ → ℕ) (k : ℕ) (sizes order : List ℕ) (g : Groups) → Cuts k sizes order
-    → Holds (refined b (cut sizes order)) (g .order) (g .sizes) (record { members = g .members; count = g .count }) → k < length (g .order) → k < length (g .sizes)
+    → Holds (refined b (cut sizes order)) (g .order) (g .sizes) (record { members = g .members; count = g .count }) → k < length (g .order) → k < 2 * length (g .sizes)
     → GroupsAre k (refined b (cut sizes order)) g
 refined-are b k sizes order g c s o z =
     let gs = cut sizes order in
@@ -45,7 +45,7 @@ refined-are b k sizes order g c s o z =
 
 -- ---- the group of all
 
-pub all-none : (k : ℕ) (order sizes : List ℕ) → k < 2 → k < length order → k < length sizes
+pub all-none : (k : ℕ) (order sizes : List ℕ) → k < 2 → k < length order → k < 2 * length sizes
     → GroupsAre k (whole k) (record { order = order; sizes = sizes; members = 0; count = 0 })
 unfolding members flatten
 all-none k order sizes h o z =
@@ -53,7 +53,7 @@ all-none k order sizes h o z =
     (holds-are k [] (record { order = order; sizes = sizes; members = 0; count = 0 }) (record { total-is = refl; count-is = refl; order-is = refl; sizes-are = refl }) tt tt
     (omega arith) o z)
 
-pub all-one : (k : ℕ) (order sizes : List ℕ) → 2 ≤ k → take k order ≡ numbers k 0 → take 1 sizes ≡ k ∷ [] → k < length order → k < length sizes
+pub all-one : (k : ℕ) (order sizes : List ℕ) → 2 ≤ k → take k order ≡ numbers k 0 → take 1 sizes ≡ k ∷ [] → k < length order → k < 2 * length sizes
     → GroupsAre k (whole k) (record { order = order; sizes = sizes; members = k; count = 1 })
 unfolding members flatten
 all-one k order sizes h e f o z =
@@ -72,13 +72,13 @@ lent-take (suc from) n zero l h = absurd (omega arith)
 lent-take (suc from) n (suc m) [] h = refl
 lent-take (suc from) n (suc m) (x ∷ l) h = lent-take from n m l (omega arith)
 
--- the groups are no more than their members
-sizes-few : (ss : List ℕ) → All (λ s. 2 ≤ s) ss → length ss ≤ total ss
+-- the groups are half as many as their members at most
+sizes-few : (ss : List ℕ) → All (λ s. 2 ≤ s) ss → 2 * length ss ≤ total ss
 unfolding total
 sizes-few [] a = omega arith
 sizes-few (s ∷ ss) a = omega (arith, a .0, sizes-few ss (a .1))
 
-pub groups-few : {k : ℕ} {g : Groups} → Shape k g → g .count ≤ k
+pub groups-few : {k : ℕ} {g : Groups} → Shape k g → 2 * g .count ≤ k
 groups-few {k} {g} shape =
     omega (arith, length-take-le (g .count) (g .sizes) (shape .places), sizes-few (sizesOf g) (shape .cuts .many), shape .cuts .sum, shape .cuts .few)
 

@@ -1,5 +1,5 @@
 -- Groups split by a value: a half listed, a half kept, and all groups one after the other. Assumes nothing.
-use Prim.Native.Nat.{ℕ, _+_, _-_, _≤_, _<_}
+use Prim.Native.Nat.{ℕ, _+_, _-_, _*_, _≤_, _<_}
 use native.Mathlib.Omega.{arith}
 use native.Mathlib.Numerals.{add-one}
 use native.Mathlib.Nat.{add-zero}
@@ -122,7 +122,7 @@ module _ (p order sizes after : List ℕ) (e : Extent) (to : ℕ) (l : Listed p 
       })
 
 room-of : {gs : List (List ℕ)} {order sizes : List ℕ} {e : Extent} (p : List ℕ) → Holds gs order sizes e → All (λ g. 2 ≤ length g) gs → length p ≤ maxVectors
-    → members gs + length p < length order → members gs < length sizes → Room p order sizes e
+    → members gs + length p < length order → members gs < 2 * length sizes → Room p order sizes e
 room-of {gs} p s a few r q =
     record { few = few; order-room = omega (arith, s .total-is); sizes-room = omega (arith, s .count-is, members-many gs a) }
 
@@ -137,9 +137,9 @@ module _ (b : ℕ → ℕ) (sizes order : List ℕ) where
     pub holds : Holds done out outSizes e
     pub same : done ++ refined b (rest sizes order from g) ≡ refined b (cut sizes order)
     pub out-room : length order < length out
-    pub sizes-room : length order < length outSizes
+    pub sizes-room : length order < 2 * length outSizes
 
-  pub splitting-none : (out outSizes : List ℕ) → total sizes ≡ length order → length order < length out → length order < length outSizes
+  pub splitting-none : (out outSizes : List ℕ) → total sizes ≡ length order → length order < length out → length order < 2 * length outSizes
       → Splitting out outSizes (record { members = 0; count = 0 }) 0 0
   unfolding members flatten
   splitting-none out outSizes h r q =

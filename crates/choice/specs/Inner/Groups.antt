@@ -1,5 +1,5 @@
 -- Groups of vectors as two lists: the members, group after group, and how long each group is.
-use Prim.Native.Nat.{ℕ, _+_, _≤_, _<_}
+use Prim.Native.Nat.{ℕ, _+_, _/_, _≤_, _<_}
 use mathlib.Core.Path.{_≡_}
 use mathlib.Core.List.{List, [], _++_, map, flatten}
 use lib.ListN.{length, getD, take}
@@ -10,6 +10,10 @@ use Rattle.choice.specs.declared.groups.Groups.{Groups}
 use Rattle.choice.specs.declared.groups.Extent.{Extent}
 use Rattle.vectors.specs.Bounds.{maxVectors}
 use Rattle.vectors.specs.Masks.{valueBy}
+
+-- so many groups there are at most, of two members or more
+abbrev pub maxGroups : ℕ
+maxGroups = maxVectors / 2 + 1
 
 -- indices below k in groups of two members or more
 pub record Cuts (k : ℕ) (sizes order : List ℕ) : Type 0 where

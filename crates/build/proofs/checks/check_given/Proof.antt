@@ -1,10 +1,12 @@
 -- `build::checks::check_given` meets its contract: each check climbs one rung. Assumes nothing.
 use Prim.Native.Nat.{ℕ}
 use mathlib.Core.Path.{_≡_, sym, ap, _∙_}
-use mathlib.Core.List.{List}
-use lib.ListN.{drop}
+use mathlib.Core.List.{List, map}
+use lib.ListN.{drop, length-map}
+use Rattle.lists.specs.First.{repeated}
 use Rattle.lists.proofs.Finding.NonePass.{none-all}
-use Rattle.vectors.specs.Variable.{faulty}
+use Rattle.vectors.specs.Variable.{faulty, numberOf}
+use Rattle.repeats.proofs.Limit.{few}
 use Rattle.span.specs.Span.{firstDependent}
 use Rattle.span.proofs.Labels.Edges.{kinds-same}
 use Rattle.build.specs.declared.Refusal.{Refusal}
@@ -35,8 +37,14 @@ dependent c =
 past2 : (c : tie.Else2) → let s = c .before .before .before .before .before .before .before in ladder (rungs s) ≡ ladder (drop 2 (rungs s))
 past2 c = past1 (c .before .before) ∙ at-no 8 _ _ (sym (dependent (c .before)) ∙ c .if2 .left)
 
+-- the list is not too long, so all of it is looked at
+alike : (c : tie.After-first-alike) → let s = c .before .before .before .before .before .before .before .before in c .first-alike .result ≡ repeated (map (numberOf (kindsBy (s .args .chart))) (s .args .vectors .now))
+alike c =
+    let s = c .before .before .before .before .before .before .before .before in
+    c .first-alike .ensures ∙ few (map (numberOf (kindsBy (s .args .chart))) (s .args .vectors .now)) (rw length-map (s .pre .2))
+
 past3 : (c : tie.Else3) → let s = c .before .before .before .before .before .before .before .before .before in ladder (rungs s) ≡ ladder (drop 3 (rungs s))
-past3 c = past2 (c .before .before) ∙ at-no 9 _ _ (sym (c .before .first-alike .ensures) ∙ c .if3 .left)
+past3 c = past2 (c .before .before) ∙ at-no 9 _ _ (sym (alike (c .before)) ∙ c .if3 .left)
 
 returns : tie.Need-returns
 returns c =
@@ -52,9 +60,9 @@ returns-2 c =
 
 returns-3 : tie.Need-returns-3
 returns-3 c =
-    let r = c .before .before .first-alike in
-    c .refuse3 .ensures ∙ ap (λ (i : ℕ). record { number = 10; place = i }) (r .ensures)
-    ∙ sym (past2 (c .before .before .before) ∙ at-yes 9 _ _ (λ e. c .before .if3 .taken (r .ensures ∙ e)))
+    let r = alike (c .before .before) in
+    c .refuse3 .ensures ∙ ap (λ (i : ℕ). record { number = 10; place = i }) r
+    ∙ sym (past2 (c .before .before .before) ∙ at-yes 9 _ _ (λ e. c .before .if3 .taken (r ∙ e)))
 
 returns-4 : tie.Need-returns-4
 unfolding ladder

@@ -1,12 +1,12 @@
 -- `choice::groups::refined` meets its contract. Assumes nothing.
 use borrow.Author.Needs.{needs}
-use Prim.Native.Nat.{_+_, _-_, _≤_, _<_}
+use Prim.Native.Nat.{_+_, _-_, _*_, _≤_, _<_}
 use native.Mathlib.Omega.{arith}
 use mathlib.Core.Path.{_≡_, refl, sym, _∙_}
 use lib.ListN.{length, getD}
 use lib.Seq.{length-take-le}
 use Rattle.vectors.specs.Bounds.{maxVectors}
-use Rattle.choice.specs.Inner.Groups.{sizesOf, orderOf, valueAt}
+use Rattle.choice.specs.Inner.Groups.{maxGroups, sizesOf, orderOf, valueAt}
 use Rattle.choice.proofs.Grouping.Split.{Splitting, splitting-none, splitting-end}
 use Rattle.choice.proofs.Grouping.Held.{refined-are, groups-few, split-fits, split-low, split-room, split-room-2, split-more}
 use Rattle.choice.proofs.groups.refined.Statement.{statement}
@@ -14,7 +14,7 @@ use Rattle.choice.proofs.groups.refined.Tie as tie
 
 abbrev Inv-loop : tie.InvT-loop
 Inv-loop vectors mask groups order sizes next₀ next-sizes₀ at₀ from₀ g₀ next next-sizes at from g =
-    Splitting (valueAt vectors mask) (sizesOf groups) (orderOf groups) next next-sizes at from g × (length next ≡ maxVectors + 1) × (length next-sizes ≡ maxVectors + 1)
+    Splitting (valueAt vectors mask) (sizesOf groups) (orderOf groups) next next-sizes at from g × (length next ≡ maxVectors + 1) × (length next-sizes ≡ maxGroups)
 
 abbrev μ-loop : tie.MeasureT-loop
 μ-loop vectors mask groups order sizes next₀ next-sizes₀ at₀ from₀ g₀ next next-sizes at from g = groups .count - g
@@ -39,7 +39,7 @@ to : (c : tie.Then1 Inv-loop μ-loop)
 to c = let l = c .before .before in split-fits _ (start l .pre .1) (l .loop .inv .0) (c .if1 .taken)
 
 -- it is one of the groups
-low : (c : tie.Then1 Inv-loop μ-loop) → c .before .before .loop .g < maxVectors
+low : (c : tie.Then1 Inv-loop μ-loop) → 2 * c .before .before .loop .g < maxVectors
 low c = let p = start (c .before .before) .pre in omega (arith, groups-few (p .1), p .0, c .if1 .taken)
 
 mul-to : tie.Need-mul-to Inv-loop μ-loop
