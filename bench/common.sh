@@ -39,9 +39,10 @@ compile() {
         stop "$program could not be compiled"
 }
 
+# The emulator takes an instruction that clears memory a byte at a time, so there the C library does without.
 launch() {
     if [ -n "$emulator" ]; then
-        "$emulator" "$@"
+        GLIBC_TUNABLES=glibc.cpu.x86_rep_stosb_threshold=1048576 "$emulator" "$@"
     else
         "$@"
     fi

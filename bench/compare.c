@@ -25,6 +25,12 @@ static uint64_t recover_with(int side, struct trial *t, size_t i, uint64_t *vect
     return (side == 0 ? igu_recover : twin_recover)(u.record, u.h, t->told.h, u.g, t->told.g, u.aux, t->told.aux, i, vector);
 }
 
+/* The row beside refusal 13; above it stand the cells needed. */
+static uint64_t row_of(uint64_t answer)
+{
+    return answer / 256 % (1 << 24);
+}
+
 /* By the checks that need no choosing and no placing the answer is settled; past them few answers are left. */
 static bool build_answer_allowed(const struct call *c, uint64_t answer)
 {
@@ -32,7 +38,7 @@ static bool build_answer_allowed(const struct call *c, uint64_t answer)
     if (expected != 0)
         return answer == expected;
     if (answer % 256 == 13)
-        return answer / 256 < (uint64_t)1 << SIDE_AT_MOST;
+        return row_of(answer) < (uint64_t)1 << SIDE_AT_MOST && answer >> 32 > c->L;
     return answer == 0 || (!c->given && (answer == 11 || answer == 12));
 }
 
@@ -97,6 +103,33 @@ static void check_written(const struct trial *t, enum entry entry, const uint64_
                 report_difference(t, "a table is not zero after refusal 13", entry, 0, answers);
 }
 
+/* The same call with other cells, in memory that is not looked at. */
+static uint64_t build_again(const struct trial *t, uint64_t cells)
+{
+    static struct memory scratch;
+    struct call c = t->call;
+    c.L = cells;
+    if (c.length.g < cells)
+        c.length.g = cells;
+    memory_copy(&scratch, &t->before[0]);
+    return build_with(0, &c, &scratch);
+}
+
+/* With as many cells as are needed the row has its place; with one fewer the answer is the same. */
+static void check_needed(const struct trial *t, enum entry entry, const uint64_t answers[2])
+{
+    uint64_t needed = answers[0] >> 32;
+    if (needed > CELLS_AT_MOST + 1)
+        return;
+    if (build_again(t, needed - 1) != answers[0])
+        report_difference(t, "a build with one cell less than needed answers otherwise", entry, 0, answers);
+    if (needed > CELLS_AT_MOST)
+        return;
+    uint64_t enough = build_again(t, needed);
+    if (enough != 0 && (enough % 256 != 13 || row_of(enough) == row_of(answers[0])))
+        report_difference(t, "a build with the cells needed does not place the row", entry, 0, answers);
+}
+
 bool build_both(struct trial *t, struct counts *counts)
 {
     static const enum part results[] = {RECORD, H, G, AUX};
@@ -112,6 +145,8 @@ bool build_both(struct trial *t, struct counts *counts)
     if (!build_answer_allowed(&t->call, answers[0]))
         report_difference(t, "both answers are wrong by the order of checking", entry, 0, answers);
     check_written(t, entry, answers);
+    if (answers[0] % 256 == 13)
+        check_needed(t, entry, answers);
     counts->refusals[entry][answers[0] % 256]++;
     return answers[0] == 0;
 }

@@ -313,6 +313,21 @@ static unsigned first_fit(const uint64_t *taken, uint64_t L, const uint16_t *col
     return NO_FIT;
 }
 
+/* The least L with which the row would fit: past L every cell is free. */
+static uint64_t needed_cells(const shelf *s, const unit *u, const uint64_t *images, unsigned row) {
+    unsigned from = (unsigned)(u->n1 + u->n - u->p);
+    for (uint64_t d = 0;; d++) {
+        uint64_t most = 0;
+        int open = 1;
+        for (unsigned v = s->last[row]; v != 0 && open; v = s->before[v]) {
+            uint64_t cell = d + (from == 64 ? 0 : (uint16_t)(images[v - 1] >> from));
+            open = cell >= u->L || u->g[cell] == 0;
+            if (cell > most) most = cell;
+        }
+        if (open) return most + 1;
+    }
+}
+
 static unsigned place_row(shelf *s, const unit *u, const uint64_t *images, unsigned row) {
     uint16_t column[MAX_VECTORS];
     unsigned weight = 0, from = (unsigned)(u->n1 + u->n - u->p);
@@ -349,7 +364,10 @@ static uint64_t place_rows(const unit *u, const uint64_t *images, uint64_t *reco
     s.taken[u->L / 64] = ~low_bits(u->L % 64);
     for (unsigned t = 0; t < s.rows; t++) {
         unsigned displacement = place_row(&s, u, images, s.order[t]);
-        if (displacement == NO_FIT) return clear_tables(u), 13 + 256 * (uint64_t)s.order[t];
+        if (displacement == NO_FIT) {
+            uint64_t needed = needed_cells(&s, u, images, s.order[t]);
+            return clear_tables(u), 13 + 256 * (uint64_t)s.order[t] + (needed << 32);
+        }
         tries += displacement + 1;
     }
     for (uint64_t v = 1; v <= u->k; v++) u->aux[v] = images[v - 1] & low_bits(u->n1 + u->n - u->p);

@@ -44,8 +44,10 @@ extern "C" {
 
 /* Chooses variables of degree 1 (x_i) or 2 (also x_i XOR x_j) that tell the k vectors apart, and builds the unit with G of L cells.
  * Needs h_len >= 2^n1 (4,096 always suffices), g_len >= L and aux_len >= k + 1.
- * Returns refusal + 256 * place. The result 0 is acceptance: record holds the unit, H[0..2^n1), G[0..L) and AUX[0..k] hold its tables.
- * On any refusal record is all 0. Refusals 1 to 12 leave the tables as they were, 13 leaves those ranges 0. No other word is written. */
+ * Returns refusal + 256 * place + 2^32 * needed: on 13 the place is the row that has none, and needed the least L with which it would
+ * have one after the same earlier rows; needed is 0 in every other result, and below 2^14. The result 0 is acceptance: record holds the
+ * unit, H[0..2^n1), G[0..L) and AUX[0..k] hold its tables. On any refusal record is all 0. Refusals 1 to 12 leave the tables as they
+ * were, 13 leaves those ranges 0. No other word is written. */
 uint64_t igu_build(size_t n, size_t degree, size_t L, const uint64_t *vectors, size_t k, uint16_t *h, size_t h_len, uint16_t *g,
                    size_t g_len, uint64_t *aux, size_t aux_len, uint64_t record[IGU_RECORD_WORDS]);
 

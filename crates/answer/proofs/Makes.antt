@@ -20,6 +20,24 @@ use Rattle.input.specs.Decimal.{goodField, valueOf}
 use Rattle.input.specs.Input.{maxText, maxListed, body, goodText, numbersIn, listed, inputFrom, inputOf, vectorsOf}
 use Rattle.answer.specs.Make.{noBuild, makeOf}
 
+-- a text reads as good when it is
+good-is : (text : List ℕ) (room : ℕ) → inputOf text room .good ≡ goodText text room
+unfolding inputOf inputFrom
+good-is text room = go (goodText text room) refl
+  where
+    go : (t : Bool) → goodText text room ≡ t → inputOf text room .good ≡ t
+    go true q = rw (q, inputOf)
+    go false q = rw (q, inputOf)
+
+module _ (text : List ℕ) (i : Input) (e : i ≡ inputOf text maxListed) where
+  pub read-is : {t : Bool} → i .good ≡ t → goodText text maxListed ≡ t
+  read-is q = sym (good-is text maxListed) ∙ sym (ap (λ (j : Input). j .good) e) ∙ q
+
+  -- and is what its numbers say
+  pub from-numbers : i .good ≡ true → i ≡ inputFrom (numbersIn text)
+  unfolding inputOf
+  from-numbers y = e ∙ rw (read-is y, inputOf)
+
 module _ (text : List ℕ) where
   -- of a text that is not good
   pub make-bad : (i : Input) (t : Tables) → i ≡ inputOf text maxListed → i .good ≡ false → record { good = false; outcome = record { built = noBuild; tables = t } } ≡ makeOf text t
@@ -32,12 +50,7 @@ module _ (text : List ℕ) where
 
   module _ (i : Input) (e : i ≡ inputOf text maxListed) (y : i .good ≡ true) where
     is-good : goodText text maxListed ≡ true
-    unfolding inputOf
-    is-good = go (goodText text maxListed) refl
-      where
-        go : (q : Bool) → goodText text maxListed ≡ q → goodText text maxListed ≡ true
-        go true q = q
-        go false q = absurd (false≢true (sym (rw (q, inputOf)) ∙ sym (ap (λ (j : Input). j .good) e) ∙ y))
+    is-good = read-is text i e y
 
     count-is : i .count ≡ length (drop 3 (numbersIn text))
     unfolding inputOf inputFrom

@@ -23,7 +23,7 @@ making m h g aux = record { good = m .good; outcome = after (m .built) h g aux }
 
 -- beside a text that is no list
 abbrev pub noBuild : Built
-noBuild = record { refusal = 0; place = 0; unit = blankRecord }
+noBuild = record { refusal = 0; place = 0; needed = 0; unit = blankRecord }
 
 -- what a text leaves in the tables t; one that is no list, nothing
 unfoldable pub makeOf : List ℕ → Tables → Making

@@ -23,6 +23,7 @@ fn no_list() -> Built
     Built {
         refusal: 0,
         place: 0,
+        needed: 0,
         unit,
     }
 }

@@ -1,5 +1,5 @@
 -- What the calls of the boundary give, from what the calls of the unit give. Assumes nothing.
-use Prim.Native.Nat.{ℕ, _<_}
+use Prim.Native.Nat.{ℕ, _≤_, _<_}
 use native.Mathlib.Omega.{arith}
 use mathlib.Core.Path.{_≡_, refl, sym, ap, ap₂, _∙_}
 use mathlib.Core.Bool.{Bool, true, false, cond}
@@ -14,6 +14,7 @@ use Rattle.record.specs.Tables.{Tables, lent}
 use Rattle.build.specs.Build.{Outcome, after, buildChosen, buildGiven}
 use Rattle.lookup.specs.Lookup.{notFound, lookupOf}
 use Rattle.recover.specs.Recover.{notRecovered, recoverOf}
+use Rattle.build.specs.Cells.{neededLimit}
 use Rattle.build.proofs.Places.{placeLimit}
 use Rattle.record.specs.Formed.{wellFormed}
 use Rattle.lookup.proofs.Indices.{found-index}
@@ -26,15 +27,15 @@ use Rattle.file.specs.Read.{Reading, readOf}
 use Rattle.load.specs.declared.Loaded.{Loaded}
 use Rattle.load.specs.Load as load
 use Rattle.bridge.specs.Flat.{variableAt, flatOf, variableWords, unitAt, allInRange, unreadable, unitSeen}
-use Rattle.bridge.specs.Calls.{answer, left, leftBy, buildCall, givenCall, foundIn, recoveredIn, lookupCall, Filed, filed, filedBy, writeCall, readCall}
+use Rattle.bridge.specs.Calls.{answer, builtAnswer, left, leftBy, buildCall, givenCall, foundIn, recoveredIn, lookupCall, Filed, filed, filedBy, writeCall, readCall}
 
 -- ---- the builds
 
 module _ (r : Built) (h g aux : List ℕ) (o : Outcome) (e : after r h g aux ≡ o) where
-  pub place-fits : o .built .place < placeLimit → r .place < 65536
-  place-fits l = omega (arith, ap (λ (o : Outcome). o .built .place) e)
+  pub answer-fits : o .built .place < placeLimit → o .built .needed ≤ neededLimit → (r .place < 65536) × (r .needed < 65536)
+  answer-fits l k = (omega (arith, ap (λ (o : Outcome). o .built .place) e), omega (arith, ap (λ (o : Outcome). o .built .needed) e))
 
-  pub left-is : (words : List ℕ) (a : ℕ) → words ≡ flatOf (r .unit) → a ≡ answer (r .refusal) (r .place) → left a words (lent h g aux) ≡ leftBy o
+  pub left-is : (words : List ℕ) (a : ℕ) → words ≡ flatOf (r .unit) → a ≡ builtAnswer (r .refusal) (r .place) (r .needed) → left a words (lent h g aux) ≡ leftBy o
   left-is words a f i = ap₂ (λ (b : ℕ) (w : List ℕ). left b w (lent h g aux)) i f ∙ ap leftBy e
 
 pub build-left : (n degree cells : ℕ) (vs : List ℕ) (t : Tables) → leftBy (buildChosen n degree cells vs t) ≡ buildCall n degree cells vs t

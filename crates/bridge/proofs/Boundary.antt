@@ -23,7 +23,7 @@ use Rattle.build.proofs.Holding.Passed.{Passed, chosen-passed, given-passed}
 use Rattle.unit.proofs.Demand2.{chosen-demand-2, given-demand-2}
 use Rattle.record.proofs.Excesses.{excess-fits}
 use Rattle.bridge.specs.Flat.{variableAt, variableWords, allInRange, flatOf, unitAt}
-use Rattle.bridge.specs.Calls.{answer, leftBy, buildCall, givenCall}
+use Rattle.bridge.specs.Calls.{builtAnswer, leftBy, buildCall, givenCall}
 use Rattle.bridge.specs.Boundary.{Exact}
 use Rattle.bridge.proofs.Answers.{build-left, given-left, found-read, found-called, recovered-read}
 use Rattle.bridge.proofs.Carried.{made, variables-carried, carried, carried-range}
@@ -68,8 +68,8 @@ given-carried n variables p n1 cells vs t e =
 -- ---- demand 2 at the boundary
 
 -- an answer of 0 is no refusal
-pub no-refusal : (r place : ℕ) → answer r place ≡ 0 → r ≡ 0
-no-refusal r place e = omega arith
+pub no-refusal : (r place needed : ℕ) → builtAnswer r place needed ≡ 0 → r ≡ 0
+no-refusal r place needed e = omega arith
 
 module _ (n : ℕ) (vs : List ℕ) (o : Outcome) (d : Demand2 lookupOf recoverOf n vs o)
     (c : Carried o) where
@@ -77,10 +77,10 @@ module _ (n : ℕ) (vs : List ℕ) (o : Outcome) (d : Demand2 lookupOf recoverOf
   exact =
       record {
         lookup-exact = λ e x l.
-            let z = no-refusal (o .built .refusal) (o .built .place) e in
+            let z = no-refusal (o .built .refusal) (o .built .place) (o .built .needed) e in
             sym (found-called (flatOf (o .built .unit)) (o .tables) x (found (indexOf vs x)) (256 * indexOf vs x) (found-read (flatOf (o .built .unit)) (o .tables) x (o .built .unit) (found (indexOf vs x)) (c z .1) (sym (c z .0)) (sym (d .lookup-exact z x l))) (omega arith));
         recovery-exact = λ e i l.
-            let z = no-refusal (o .built .refusal) (o .built .place) e in
+            let z = no-refusal (o .built .refusal) (o .built .place) (o .built .needed) e in
             sym (recovered-read (flatOf (o .built .unit)) (o .tables) (suc i) (o .built .unit) (recovered (getD vs i 0)) (c z .1) (sym (c z .0)) (sym (d .recovery-exact z i l)));
       }
 

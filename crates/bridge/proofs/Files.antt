@@ -28,7 +28,7 @@ use Rattle.file.proofs.Decoding.Built.{chosen-record-carried, given-record-carr
 use Rattle.file.proofs.Loading.Carried.{roomy-long, read-written}
 use Rattle.file.proofs.Loading.Demands.{carried-chosen-demand-2, carried-given-demand-2}
 use Rattle.bridge.specs.Flat.{variableAt, flatOf}
-use Rattle.bridge.specs.Calls.{answer, Left, left, leftBy, buildCall, givenCall, Filed, filed, writeCall, readCall}
+use Rattle.bridge.specs.Calls.{builtAnswer, Left, left, leftBy, buildCall, givenCall, Filed, filed, writeCall, readCall}
 use Rattle.bridge.specs.Boundary.{Exact, Carries}
 use Rattle.bridge.proofs.Answers.{build-left, given-left, filed-read}
 use Rattle.bridge.proofs.Boundary.{Carried, chosen-carried, given-carried, no-refusal, exact}
@@ -68,11 +68,11 @@ module _ (n : ℕ) (vs : List ℕ) (o : Outcome) (flat : Carried o) (held : o .b
       ap (λ (f : Filed). take (f .answer / 256) (f .target)) (written z target room)
       ∙ ap (λ (i : ℕ). take i (over bytes target)) d ∙ take-at bytes (drop (length bytes) target) (length bytes) refl
 
-  pub read-left : (z : o .built .refusal ≡ 0) → o .built .place ≡ 0 → (into : Tables) → Roomy into → readCall bytes into ≡ leftBy (facts.carried readOf into o)
+  pub read-left : (z : o .built .refusal ≡ 0) → o .built .place ≡ 0 → o .built .needed ≡ 0 → (into : Tables) → Roomy into → readCall bytes into ≡ leftBy (facts.carried readOf into o)
   unfolding readCall
-  read-left z q into roomy =
+  read-left z q y into roomy =
       let r : Reading = readOf bytes into in
-      let e : r .refusal ≡ answer (o .built .refusal) (o .built .place) = none-refused z into roomy ∙ omega arith in
+      let e : r .refusal ≡ builtAnswer (o .built .refusal) (o .built .place) (o .built .needed) = none-refused z into roomy ∙ omega arith in
       ap (λ (a : ℕ). left a (flatOf (r .unit)) (r .tables)) e
 
   -- the record that is read is carried too
@@ -81,10 +81,11 @@ module _ (n : ℕ) (vs : List ℕ) (o : Outcome) (flat : Carried o) (held : o .b
 
   carries : Carries n vs (leftBy o)
   carries e target into room roomy =
-      let z = no-refusal (o .built .refusal) (o .built .place) e in
+      let z = no-refusal (o .built .refusal) (o .built .place) (o .built .needed) e in
       let q : o .built .place ≡ 0 = omega arith in
+      let y : o .built .needed ≡ 0 = omega arith in
       let f = front z target room in
-      let l = read-left z q into roomy in
+      let l = read-left z q y into roomy in
       subst (λ (x : List ℕ). (readCall x into .answer ≡ 0) × Exact n vs (readCall x into)) (sym f)
       (subst (λ (y : Left). (y .answer ≡ 0) × Exact n vs y) (sym l) (e, exact n vs (facts.carried readOf into o) (demand into roomy) (flat-read z into roomy)))
 

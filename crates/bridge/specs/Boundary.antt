@@ -1,11 +1,12 @@
 -- Demand 2 at the boundary: what a caller in C or Rust has of an accepted build.
 use Prim.Native.Nat.{ℕ, suc, _*_, _/_, _^_, _≤_, _<_}
 use mathlib.Core.Path.{_≡_}
-use mathlib.Core.List.{List}
+use mathlib.Core.List.{List, map}
 use lib.ListN.{length, getD, take}
+use Rattle.lists.specs.Members.{All}
 use Rattle.record.specs.Holds.{indexOf}
 use Rattle.recover.specs.Recover.{recovered}
-use Rattle.record.specs.Tables.{Tables}
+use Rattle.record.specs.Tables.{Tables, over}
 use Rattle.file.specs.File.{longestFile}
 use Rattle.file.specs.Facts.{Roomy}
 use Rattle.bridge.specs.Calls.{Left, lookupCall, recoveredIn, writeCall, readCall}

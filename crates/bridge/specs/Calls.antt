@@ -1,5 +1,5 @@
 -- The calls of the boundary, over the definitions of the unit.
-use Prim.Native.Nat.{ℕ, _+_, _*_}
+use Prim.Native.Nat.{ℕ, _+_, _*_, _%_, _^_}
 use mathlib.Core.Bool.{cond}
 use mathlib.Core.List.{List, map}
 use Rattle.lookup.specs.declared.Found.{Found}
@@ -17,6 +17,10 @@ use Rattle.bridge.specs.Flat.{variableAt, flatOf, unitAt, variableWords,
 abbrev pub answer : ℕ → ℕ → ℕ
 answer refusal number = refusal + 256 * number
 
+-- a build's answer: above these 32 bits the cells needed
+abbrev pub builtAnswer : ℕ → ℕ → ℕ → ℕ
+builtAnswer refusal place needed = answer refusal place + 2 ^ 32 * needed
+
 -- what a build leaves: its answer, the record and every word of H, G and AUX
 pub record Left : Type 0 where
   pub answer : ℕ
@@ -27,7 +31,7 @@ abbrev pub left : ℕ → List ℕ → Tables → Left
 left r words t = record { answer = r; words = words; tables = t }
 
 abbrev pub leftBy : Outcome → Left
-leftBy o = left (answer (o .built .refusal) (o .built .place)) (flatOf (o .built .unit)) (o .tables)
+leftBy o = left (builtAnswer (o .built .refusal) (o .built .place) (o .built .needed)) (flatOf (o .built .unit)) (o .tables)
 
 unfoldable pub buildCall : ℕ → ℕ → ℕ → List ℕ → Tables → Left
 unfolding buildChosen flatOf

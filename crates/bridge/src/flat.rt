@@ -204,3 +204,11 @@ pub(crate) fn answer(refusal: u8, number: usize) -> u64
 {
     refusal as u64 + 256 * (number as u64)
 }
+
+// A build's answer in one word.
+pub(crate) fn built_answer(refusal: u8, place: usize, needed: usize) -> u64
+    requires { ⌜ (place < 65536) × (needed < 65536) ⌝ }
+    ensures { λ r. ⌜ r ≡ calls.builtAnswer refusal place needed ⌝ }
+{
+    answer(refusal, place) + 4294967296 * (needed as u64)
+}

@@ -1,4 +1,4 @@
-// The unit for C and Rust: six functions over slices and a flat record of 40 words.
+// The unit for C and Rust: seven functions over slices and a flat record of 40 words.
 ghost use mathlib.Core.Path.{_≡_};
 ghost use mathlib.Core.List.{_∷_, []};
 ghost use Rattle.record.specs.Tables.{lent};
@@ -9,7 +9,8 @@ use vectors::MAX_VARIABLES;
 
 pub mod flat;
 
-// The build that chooses its variables. The answer is the refusal and 256 times the place.
+// The build that chooses its variables. The answer is the refusal, 256 times the place and 2^32 times the
+// cells needed.
 #[no_mangle]
 pub extern "C" fn igu_build(
     n: usize,
@@ -27,7 +28,7 @@ pub extern "C" fn igu_build(
     let built = unit::build_chosen(n, degree, cells, vectors, h, g, aux);
     let unit = built.unit;
     *words = flat::words(unit);
-    flat::answer(built.refusal, built.place)
+    flat::built_answer(built.refusal, built.place, built.needed)
 }
 
 // The build whose variables and n1 the caller states.
@@ -52,7 +53,7 @@ pub extern "C" fn igu_build_given(
     let built = unit::build_given(n, given, p, n1, cells, vectors, h, g, aux);
     let unit = built.unit;
     *words = flat::words(unit);
-    flat::answer(built.refusal, built.place)
+    flat::built_answer(built.refusal, built.place, built.needed)
 }
 
 // What lookup gives by a record; 14 where a word of the variables is out of range.

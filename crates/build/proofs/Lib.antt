@@ -2,3 +2,4 @@ pub mod Refusing
 pub mod Writing
 pub mod Holding
 pub mod Places
+pub mod Cells

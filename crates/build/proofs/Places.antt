@@ -1,5 +1,5 @@
 -- A build's place is a row, or the number of a vector or a variable, and a lookup's index is the number of a vector: they are small. Assumes nothing.
-use Prim.Native.Nat.{ℕ, zero, suc, _+_, _^_, _≤_, _<_}
+use Prim.Native.Nat.{ℕ, zero, suc, _+_, _-_, _^_, _≤_, _<_}
 use native.Mathlib.Omega.{arith}
 use native.Mathlib.Nat.{eq-zero-or-pos, lt-of-lt-of-le}
 use mathlib.Core.Path.{_≡_, refl}
@@ -8,7 +8,7 @@ use mathlib.Core.List.{List, [], _∷_, _++_, map}
 use mathlib.Core.Logic.{_⊎_, inl, inr}
 use borrow.Author.Tests.{ltb-false}
 use lib.Dec.{leb, ltb}
-use lib.ListN.{length, take, replicate, length-map, length-take}
+use lib.ListN.{length, take, replicate, length-map, length-take, length-replicate}
 use lib.Pow.{pow-mono}
 use Rattle.lists.specs.First.{has, repeated}
 use Rattle.lists.proofs.Finding.Firsts.{first-length}
@@ -31,6 +31,9 @@ use Rattle.rows.specs.declared.End.{End}
 use Rattle.rows.specs.declared.End.the-variants as ends
 use Rattle.rows.specs.declared.End.the-variants.{NoFit, Unfit}
 use Rattle.rows.proofs.Placing.Turns.{ended}
+use Rattle.rows.proofs.Placing.Wider.{stuck-low}
+use Rattle.build.specs.Cells.{neededLimit}
+use Rattle.build.proofs.Holding.Cares.{cares-columns}
 
 abbrev pub placeLimit : ℕ
 placeLimit = 2 ^ maxSide
@@ -86,12 +89,31 @@ list-low n second cells vs g aux rs h l =
 
 -- ---- past refusals 1 to 12
 
-row-low : (n1 : ℕ) (ks : List Kind) (cells : ℕ) (vs : List ℕ) → n1 ≤ maxSide → (row tried : ℕ) → placingOf n1 ks cells vs .end ≡ NoFit row tried → row < placeLimit
+row-low : (n1 : ℕ) (ks : List Kind) (cells : ℕ) (vs : List ℕ) → n1 ≤ maxSide → (row tried needed : ℕ) → placingOf n1 ks cells vs .end ≡ NoFit row tried needed → row < placeLimit
 unfolding placingOf
-row-low n1 ks cells vs h row tried e =
-    let next = ended (caresFrom 1 n1 ks vs) (replicate (2 ^ n1) 0) (replicate cells 0) .no-fit row tried e .0 in
+row-low n1 ks cells vs h row tried needed e =
+    let next = ended (caresFrom 1 n1 ks vs) (replicate (2 ^ n1) 0) (replicate cells 0) .no-fit row tried needed e .0 in
     let l : row < 2 ^ n1 = rw (← placing-rows n1 ks cells vs) (next .row-in) in
     lt-of-lt-of-le l (pow-mono {i = n1} {j = maxSide} h)
+
+-- what is needed beside a refusal
+needed-low : (n1 : ℕ) (ks : List Kind) (cells : ℕ) (vs : List ℕ) → cells ≤ maxCells → length ks - n1 ≤ maxSide → (row tried needed : ℕ)
+    → placingOf n1 ks cells vs .end ≡ NoFit row tried needed → needed ≤ neededLimit
+unfolding placingOf
+needed-low n1 ks cells vs few h row tried needed e =
+    let s = stuck-low (caresFrom 1 n1 ks vs) (replicate (2 ^ n1) 0) (replicate cells 0) row tried needed e (2 ^ (length ks - n1)) (cares-columns n1 ks 1 vs) in
+    omega (arith, s, length-replicate {A = ℕ} cells 0, pow-mono {i = length ks - n1} {j = maxSide} h)
+
+outcome-needed : (r : Refusal) (n n1 : ℕ) (ks : List Kind) (cells : ℕ) (vs : List ℕ) (t : Tables) → (r .number ≡ 0 → (cells ≤ maxCells) × (length ks - n1 ≤ maxSide))
+    → outcome r n n1 ks cells vs t .built .needed ≤ neededLimit
+outcome-needed r n n1 ks cells vs t l = go (eq-zero-or-pos (r .number)) (placingOf n1 ks cells vs .end) refl
+  where
+    go : (r .number ≡ 0) ⊎ (0 < r .number) → (e : End) → placingOf n1 ks cells vs .end ≡ e → outcome r n n1 ks cells vs t .built .needed ≤ neededLimit
+    go (inr k) e q = rw (outcome-refused r n n1 ks cells vs t (λ z. omega arith)) (omega arith)
+    go (inl z) ends.All q = rw (outcome-passed r n n1 ks cells vs t z, finish-all n n1 ks cells vs t q) (omega arith)
+    go (inl z) (NoFit row tried needed) q =
+        rw (outcome-passed r n n1 ks cells vs t z, finish-stuck n n1 ks cells vs t row tried needed q) (needed-low n1 ks cells vs (l z .0) (l z .1) row tried needed q)
+    go (inl z) Unfit q = absurd (placing-ends n1 ks cells vs q)
 
 outcome-low : (r : Refusal) (n n1 : ℕ) (ks : List Kind) (cells : ℕ) (vs : List ℕ) (t : Tables) → Low r → (r .number ≡ 0 → n1 ≤ maxSide)
     → outcome r n n1 ks cells vs t .built .place < placeLimit
@@ -100,8 +122,8 @@ outcome-low r n n1 ks cells vs t h l = go (eq-zero-or-pos (r .number)) (placingO
     go : (r .number ≡ 0) ⊎ (0 < r .number) → (e : End) → placingOf n1 ks cells vs .end ≡ e → outcome r n n1 ks cells vs t .built .place < placeLimit
     go (inr k) e q = rw (outcome-refused r n n1 ks cells vs t (λ z. omega arith)) h
     go (inl z) ends.All q = rw (outcome-passed r n n1 ks cells vs t z, finish-all n n1 ks cells vs t q) (omega arith)
-    go (inl z) (NoFit row tried) q =
-        rw (outcome-passed r n n1 ks cells vs t z, finish-stuck n n1 ks cells vs t row tried q) (row-low n1 ks cells vs (l z) row tried q)
+    go (inl z) (NoFit row tried needed) q =
+        rw (outcome-passed r n n1 ks cells vs t z, finish-stuck n n1 ks cells vs t row tried needed q) (row-low n1 ks cells vs (l z) row tried needed q)
     go (inl z) Unfit q = absurd (placing-ends n1 ks cells vs q)
 
 -- ---- the builds
@@ -128,3 +150,19 @@ given-place n variables p n1 cells vs t places =
     let tenth : Low (check10 ks vs) = at-low 10 (repeated (map (numberOf ks) vs)) (omega (arith, first-length (λ before x. has x before) (map (numberOf ks) vs), length-map vs (numberOf ks))) in
     (eighth, (ninth, (tenth, (if-low 12 (ltb (length (t .h)) (2 ^ n1)), tt))))))
     (λ z. given-passed n variables p n1 cells vs t places z .split .rows-few)
+
+-- ---- the cells needed
+
+pub chosen-needed : (n degree cells : ℕ) (vs : List ℕ) (t : Tables) → buildChosen n degree cells vs t .built .needed ≤ neededLimit
+unfolding buildChosen
+chosen-needed n degree cells vs t =
+    let ks : List Kind = choose maxVariables n degree vs in
+    outcome-needed (chosenRefusal n degree ks cells vs t) n (rowsShare (length ks)) ks cells vs t
+    (λ z. let p = chosen-passed n degree cells vs t z in (p .list .few-cells, p .split .columns-few))
+
+pub given-needed : (n : ℕ) (variables : List Variable) (p n1 cells : ℕ) (vs : List ℕ) (t : Tables) → length variables ≡ maxVariables
+    → buildGiven n variables p n1 cells vs t .built .needed ≤ neededLimit
+unfolding buildGiven
+given-needed n variables p n1 cells vs t places =
+    outcome-needed (givenRefusal n p n1 (kindsOf (take p variables)) cells vs t) n n1 (kindsOf (take p variables)) cells vs t
+    (λ z. let q = given-passed n variables p n1 cells vs t places z in (q .list .few-cells, q .split .columns-few))

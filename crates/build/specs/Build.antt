@@ -42,13 +42,17 @@ unfoldable pub placingOf : ℕ → List Kind → ℕ → List ℕ → Placing
 unfolding caresFrom place
 placingOf n1 ks cells vs = place (caresFrom 1 n1 ks vs) (replicate (2 ^ n1) 0) (replicate cells 0)
 
--- SCOPE 11.4: number, place and a blank record
-abbrev pub refused : Refusal → Tables → Outcome
-refused r t = record { built = record { refusal = r .number; place = r .place; unit = blankRecord }; tables = t }
+-- SCOPE 11.4: number, place, so many cells needed, and a blank record
+abbrev pub refusedFor : Refusal → ℕ → Tables → Outcome
+refusedFor r needed t = record { built = record { refusal = r .number; place = r .place; needed = needed; unit = blankRecord }; tables = t }
 
--- SCOPE 11.3: number 0, place 0 and the record
+-- SCOPE 11.9: needed is 0 but for 13
+abbrev pub refused : Refusal → Tables → Outcome
+refused r t = refusedFor r 0 t
+
+-- SCOPE 11.3, 11.9: number 0, place 0, needed 0 and the record
 abbrev pub accepted : Record → Built
-accepted u = record { refusal = 0; place = 0; unit = u }
+accepted u = record { refusal = 0; place = 0; needed = 0; unit = u }
 
 -- SCOPE 11.6: zeros in the words that the unit would have had, and no other word altered
 abbrev pub zeroed : ℕ → ℕ → ℕ → Tables → Tables
@@ -64,7 +68,7 @@ abbrev pub written : ℕ → ℕ → List Kind → List ℕ → Placing → Tabl
 written n n1 ks vs P t =
     record { h = over (P .state .h) (t .h); g = over (P .state .g) (t .g); aux = over (auxOf n n1 ks vs) (t .aux) }
 
--- past refusals 1 to 12. SCOPE 11.1, No. 13: a row in its turn fits nowhere; or else the unit. No placing ends with Unfit
+-- past refusals 1 to 12. SCOPE 11.1, No. 13: a row in its turn fits nowhere, and so many cells are needed (SCOPE 7.7); or else the unit. No placing ends with Unfit
 unfoldable pub finish : ℕ → ℕ → List Kind → ℕ → List ℕ → Tables → Outcome
 unfolding placingOf recordOf wordOf
 finish n n1 ks cells vs t =
@@ -74,7 +78,7 @@ finish n n1 ks cells vs t =
         built = accepted (recordOf n n1 (length vs) ks cells (P .state .tries));
         tables = written n n1 ks vs P t;
       }
-      | NoFit row tried ↦ refused (record { number = 13; place = row }) (zeroed n1 cells (length vs) t)
+      | NoFit row tried needed ↦ refusedFor (record { number = 13; place = row }) needed (zeroed n1 cells (length vs) t)
       | Unfit ↦ refused (record { number = 13; place = 0 }) (zeroed n1 cells (length vs) t)
     ]
 

@@ -1,3 +1,4 @@
 pub mod Refusals
 pub mod Build
+pub mod Cells
 pub mod Inner

@@ -23,13 +23,14 @@ use rows::End;
 use rows::Placed;
 
 // A refused build's answer.
-pub(crate) fn refused(refusal: u8, place: usize) -> Built
-    ensures { λ r. ⌜ r ≡ record { refusal = refusal; place = place; unit = blankRecord } ⌝ }
+pub(crate) fn refused(refusal: u8, place: usize, needed: usize) -> Built
+    ensures { λ r. ⌜ r ≡ record { refusal = refusal; place = place; needed = needed; unit = blankRecord } ⌝ }
 {
     let unit = record::blank();
     Built {
         refusal,
         place,
+        needed,
         unit,
     }
 }
@@ -112,6 +113,7 @@ fn accept(chart: Chart, cells: usize, tries: u64, vectors: &[u64], aux: &mut [u6
     Built {
         refusal: 0,
         place: 0,
+        needed: 0,
         unit,
     }
 }
@@ -128,11 +130,11 @@ fn finish(chart: Chart, vectors: &[u64], h: &mut [u16], g: &mut [u16], aux: &mut
     let end = placed.end;
     match end {
         End::All => accept(chart, g.len(), placed.tries, vectors, aux),
-        End::NoFit(row, _) => {
+        End::NoFit(row, _, needed) => {
             lists::clear64(aux);
-            refused(13, row)
+            refused(13, row, needed)
         }
-        End::Unfit => refused(13, 0),
+        End::Unfit => refused(13, 0, 0),
     }
 }
 
@@ -153,7 +155,7 @@ pub(crate) fn complete(
 {
     let rows = 1usize << chart.n1;
     if h.len() < rows {
-        return refused(12, 0);
+        return refused(12, 0, 0);
     }
     let last = vectors.len() + 1;
     finish(

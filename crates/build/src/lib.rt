@@ -15,10 +15,12 @@ pub struct Refusal {
     pub place: usize,
 }
 
-// The refusal's number and its place, 0 and 0 where the call is accepted; the record, blank beside a refusal.
+// The refusal's number and its place, 0 and 0 where the call is accepted; beside 13 the least number of cells with which its row would have
+// a place, else 0; the record, blank beside a refusal.
 pub struct Built {
     pub refusal: u8,
     pub place: usize,
+    pub needed: usize,
     pub unit: Record,
 }
 
@@ -46,11 +48,11 @@ pub fn build_chosen(
     let two = vectors::outside(1, 2, degree);
     let list = checks::check_list(n, two, cells, vectors, g.len(), aux.len());
     if list.number != 0 {
-        return finish::refused(list.number, list.place);
+        return finish::refused(list.number, list.place, 0);
     }
     let chosen = choice::choose(vectors, n as u8, degree);
     if !chosen.apart {
-        return finish::refused(11, 0);
+        return finish::refused(11, 0, 0);
     }
     let p = chosen.p;
     let n1 = p - p / 2;
@@ -82,7 +84,7 @@ pub fn build_given(
     let two = vectors::too_many(p, n1);
     let list = checks::check_list(n, two, cells, vectors, g.len(), aux.len());
     if list.number != 0 {
-        return finish::refused(list.number, list.place);
+        return finish::refused(list.number, list.place, 0);
     }
     let chart = Chart {
         n,
@@ -92,7 +94,7 @@ pub fn build_given(
     };
     let given = checks::check_given(chart, vectors);
     if given.number != 0 {
-        return finish::refused(given.number, given.place);
+        return finish::refused(given.number, given.place, 0);
     }
     finish::complete(chart, cells, vectors, h, g, aux)
 }

@@ -54,7 +54,7 @@ fn digest64(words: &[u64]) -> u64 {
     d
 }
 
-// The refusal and its place, p, n1, excess, tries and the kept inputs of the record, a digest of the masks in its 24 slots, and a digest
+// The refusal, its place and the cells needed, p, n1, excess, tries and the kept inputs of the record, a digest of the masks in its 24 slots, and a digest
 // of each table.
 pub(crate) fn built(b: Built, h: &[u16], g: &[u16], aux: &[u64]) {
     let u = b.unit;
@@ -63,6 +63,7 @@ pub(crate) fn built(b: Built, h: &[u16], g: &[u16], aux: &[u64]) {
     io::write_all(STDOUT_FILENO, b"build");
     number(b.refusal as u64);
     number(b.place as u64);
+    number(b.needed as u64);
     number(u.p as u64);
     number(u.n1 as u64);
     signed(u.excess);

@@ -1,5 +1,5 @@
 -- What the calls of the engine give, from what the calls of profiles give. Assumes nothing.
-use Prim.Native.Nat.{ℕ, _<_}
+use Prim.Native.Nat.{ℕ, _≤_, _<_}
 use native.Mathlib.Omega.{arith}
 use mathlib.Core.Path.{_≡_, refl, sym, ap, subst, _∙_}
 use mathlib.Core.Bool.{Bool, true, false}
@@ -10,7 +10,8 @@ use Rattle.lookup.specs.declared.Found.{Found}
 use Rattle.lookup.specs.Lookup.{lookupOf}
 use Rattle.record.specs.Tables.{Tables}
 use Rattle.build.specs.Build.{Outcome}
-use Rattle.build.proofs.Places.{placeLimit, chosen-place}
+use Rattle.build.specs.Cells.{neededLimit}
+use Rattle.build.proofs.Places.{placeLimit, chosen-place, chosen-needed}
 use Rattle.bridge.specs.Flat.{unitSeen}
 use Rattle.bridge.specs.Calls.{leftBy, foundIn}
 use Rattle.bridge.proofs.Answers.{seen-found, seen-keys}
@@ -34,6 +35,13 @@ keys-place degree cells keys t = go (every inWidths keys) refl
     go : (w : Bool) → every inWidths keys ≡ w → buildKeys degree cells keys t .built .place < placeLimit
     go true w = subst (λ (o : Outcome). o .built .place < placeLimit) (keys-build degree cells keys t w) (chosen-place keyBits degree cells (map packed keys) t)
     go false w = subst (λ (o : Outcome). o .built .place < placeLimit) (keys-wide degree cells keys t w) (omega arith)
+
+pub keys-needed : (degree cells : ℕ) (keys : List Key) (t : Tables) → buildKeys degree cells keys t .built .needed ≤ neededLimit
+keys-needed degree cells keys t = go (every inWidths keys) refl
+  where
+    go : (w : Bool) → every inWidths keys ≡ w → buildKeys degree cells keys t .built .needed ≤ neededLimit
+    go true w = subst (λ (o : Outcome). o .built .needed ≤ neededLimit) (keys-build degree cells keys t w) (chosen-needed keyBits degree cells (map packed keys) t)
+    go false w = subst (λ (o : Outcome). o .built .needed ≤ neededLimit) (keys-wide degree cells keys t w) (omega arith)
 
 pub keys-left : (degree cells : ℕ) (keys : List Key) (t : Tables) → leftBy (buildKeys degree cells keys t) ≡ keysCall degree cells keys t
 unfolding keysCall

@@ -43,6 +43,7 @@ module _ (keys : List Key) (words : List ℕ) (t : Tables) (c : Called keys word
     pub left : keysCall (c .degree) (c .cells) keys (c .lent) ≡ leftBy o
     pub none : o .built .refusal ≡ 0
     pub nowhere : o .built .place ≡ 0
+    pub unneeded : o .built .needed ≡ 0
 
   pub passed : Passed
   passed = go (every inWidths keys) refl
@@ -51,7 +52,7 @@ module _ (keys : List Key) (words : List ℕ) (t : Tables) (c : Called keys word
       go true w =
           let l : keysCall (c .degree) (c .cells) keys (c .lent) ≡ leftBy o = sym (keys-left (c .degree) (c .cells) keys (c .lent)) ∙ ap leftBy (sym (keys-build (c .degree) (c .cells) keys (c .lent) w)) in
           let e = ap (λ (m : Left). m .answer) (sym l) ∙ c .accepted in
-          record { widths = w; left = l; none = omega arith; nowhere = omega arith }
+          record { widths = w; left = l; none = omega arith; nowhere = omega arith; unneeded = omega arith }
       go false w =
           let l = sym (keys-left (c .degree) (c .cells) keys (c .lent)) ∙ ap leftBy (sym (keys-wide (c .degree) (c .cells) keys (c .lent) w)) in
           let e = ap (λ (m : Left). m .answer) (sym l) ∙ c .accepted in
@@ -104,7 +105,7 @@ module _ (keys : List Key) (words : List ℕ) (t : Tables) (c : CalledByFile key
       (front keyBits vs made flat (chosen-holds keyBits (d .degree) (d .cells) vs (d .lent)) (chosen-record-carried keyBits (d .degree) (d .cells) vs (d .lent))
       (λ into roomy. carried-chosen-demand-2 into roomy keyBits (d .degree) (d .cells) vs (d .lent)) accepted-made (c .target) (c .room))
       ∙ read-left keyBits vs made flat (chosen-holds keyBits (d .degree) (d .cells) vs (d .lent)) (chosen-record-carried keyBits (d .degree) (d .cells) vs (d .lent))
-      (λ into roomy. carried-chosen-demand-2 into roomy keyBits (d .degree) (d .cells) vs (d .lent)) accepted-made (passed keys (c .before) (c .tables) d .nowhere) (c .into) (c .roomy)
+      (λ into roomy. carried-chosen-demand-2 into roomy keyBits (d .degree) (d .cells) vs (d .lent)) accepted-made (passed keys (c .before) (c .tables) d .nowhere) (passed keys (c .before) (c .tables) d .unneeded) (c .into) (c .roomy)
 
   flat-carried : Carried (carried readOf (c .into) made)
   flat-carried =

@@ -20,9 +20,9 @@ abbrev pub whoseWord : Whose → ℕ
 whoseWord House = 0
 whoseWord Brand = 1
 
--- the refusal in 8 bits, the number above them, and from bit 32 on the mark
+-- the refusal in 8 bits, the number above them, and another from bit 32 on: the slab, or the cells needed
 abbrev pub answer : ℕ → ℕ → ℕ → ℕ
-answer refusal number mark = refusal + 256 * number + 2 ^ 32 * mark
+answer refusal number above = refusal + 256 * number + 2 ^ 32 * above
 
 abbrev pub answerOf : Held → ℕ
 answerOf at = answer (at .refusal) (at .number) (whoseWord (at .whose))

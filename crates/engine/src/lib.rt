@@ -10,15 +10,15 @@ ghost use Rattle.engine.specs.Calls.{keysCall, profileCall};
 use bridge::flat::WORDS;
 use profiles::Room;
 
-// A refusal, a number and a mark in one word.
-fn answer(refusal: u8, number: usize, mark: u64) -> u64
-    requires { ⌜ (number < 65536) × (mark < 2) ⌝ }
-    ensures { λ r. ⌜ r ≡ spec.answer refusal number mark ⌝ }
+// A refusal and two numbers in one word.
+fn answer(refusal: u8, number: usize, above: usize) -> u64
+    requires { ⌜ (number < 65536) × (above < 65536) ⌝ }
+    ensures { λ r. ⌜ r ≡ spec.answer refusal number above ⌝ }
 {
-    refusal as u64 + 256 * (number as u64) + 0x1_0000_0000 * mark
+    refusal as u64 + 256 * (number as u64) + 0x1_0000_0000 * (above as u64)
 }
 
-// The chosen build of a list of keys. The answer is the refusal and 256 times the place.
+// The chosen build of a list of keys. The answer is the refusal, 256 times the place and 2^32 times the cells needed.
 #[no_mangle]
 pub extern "C" fn igu_profiles_build(
     degree: usize,
@@ -35,7 +35,7 @@ pub extern "C" fn igu_profiles_build(
     let built = profiles::build(degree, cells, keys, h, g, aux);
     let unit = built.unit;
     *words = bridge::flat::words(unit);
-    answer(built.refusal, built.place, 0)
+    answer(built.refusal, built.place, built.needed)
 }
 
 // Where a key's profile is: the refusal, 256 times its number, and 2^32 for the brand's slab. As `profiles::find`, with the records read as `bridge` reads

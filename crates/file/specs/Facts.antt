@@ -123,7 +123,7 @@ pub record Roomy (t : Tables) : Type 0 where
 abbrev pub carried : Reader → Tables → Outcome → Outcome
 carried read into o =
     let r = read (fileOf (o .built .unit) (o .tables)) into in
-    record { built = record { refusal = o .built .refusal; place = o .built .place; unit = r .unit }; tables = r .tables }
+    record { built = record { refusal = o .built .refusal; place = o .built .place; needed = o .built .needed; unit = r .unit }; tables = r .tables }
 
 abbrev pub carriedChosen : Reader → Tables → ChosenBuild → ChosenBuild
 carriedChosen read into build n degree cells vs t = carried read into (build n degree cells vs t)

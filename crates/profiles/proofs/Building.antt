@@ -39,7 +39,7 @@ module _ (degree cells : ℕ) (t : Tables) (vs : List ℕ) (long : maxVectors < 
       let d = chosen-demand-1 keyBits degree cells vs t in
       let r : 0 < o .built .refusal = omega (arith, e .0) in
       λ i. record {
-        built = record { refusal = e .0 i; place = e .1 i; unit = d .leaves .blank r i };
+        built = record { refusal = e .0 i; place = e .1 i; needed = d .leaves .none-needed (λ (z : o .built .refusal ≡ 13). omega (arith, e .0)) i; unit = d .leaves .blank r i };
         tables = d .leaves .untouched r (omega (arith, e .0)) i;
       }
 

@@ -117,6 +117,7 @@ pub fn build(
         return Built {
             refusal: 30,
             place: 0,
+            needed: 0,
             unit,
         };
     }

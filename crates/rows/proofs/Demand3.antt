@@ -39,7 +39,7 @@ spread-bounds k cs s h (p ∷ ps) f b r m =
     (λ i. spread-bounds k cs s h ps (f .1) (b .1) r i)
     (has-cons r p ps m)
 
-row-columns : (columns r : ℕ) (cs : List Care) → Columns columns cs → Columns columns (inRow r cs)
+pub row-columns : (columns r : ℕ) (cs : List Care) → Columns columns cs → Columns columns (inRow r cs)
 unfolding inRow
 row-columns columns r [] q = tt
 row-columns columns r (c ∷ cs) q = go (eqb (c .row) r) (row-columns columns r cs (q .1))
@@ -48,7 +48,7 @@ row-columns columns r (c ∷ cs) q = go (eqb (c .row) r) (row-columns columns r 
     go true i = (q .0, i)
     go false i = i
 
-columns-inside : (columns cells d : ℕ) → d + columns ≤ cells → (m : List Care) → Columns columns m → inside cells d m ≡ true
+pub columns-inside : (columns cells d : ℕ) → d + columns ≤ cells → (m : List Care) → Columns columns m → inside cells d m ≡ true
 unfolding inside
 columns-inside columns cells d l [] q = refl
 columns-inside columns cells d l (c ∷ m) q =
@@ -106,9 +106,9 @@ module _ (cs : List Care) (h g : List ℕ) where
         go false m = omega (arith, others-zero zero i m)
 
     -- the row in its turn has a displacement where the cells number k and the columns
-    next-fits : (columns : ℕ) → k + columns ≤ length g → Columns columns cs → (r tried : ℕ) → Next cs (P .state) r → firstFit (P .state .g) (inRow r cs) ≡ None tried → ⊥
+    next-fits : (columns : ℕ) → k + columns ≤ length g → Columns columns cs → (r tried cells : ℕ) → Next cs (P .state) r → firstFit (P .state .g) (inRow r cs) ≡ None tried cells → ⊥
     unfolding weightOf
-    next-fits columns l c r tried n f =
+    next-fits columns l c r tried cells n f =
         let w = length (inRow r cs) * filled (P .state .g) in
         let a : w ≤ k =
         le-trans
@@ -124,7 +124,7 @@ module _ (cs : List Care) (h g : List ℕ) where
       where
         go : (e : End) → P .end ≡ e → P .end ≡ All
         go All q = q
-        go (NoFit r tried) q = let n = ended cs h g .no-fit r tried q in absurd (next-fits columns l c r tried (n .0) (n .1))
+        go (NoFit r tried cells) q = let n = ended cs h g .no-fit r tried cells q in absurd (next-fits columns l c r tried cells (n .0) (n .1))
         go Unfit q = absurd (ended cs h g .not-unfit q)
 
 -- the test of the spread condition says it for every j

@@ -2,4 +2,5 @@
 pub mod First
 pub mod Filled
 pub mod Bound
+pub mod Needed
 pub mod Cells

@@ -7,3 +7,4 @@ pub mod Spreads
 pub mod Counts
 pub mod Smallest
 pub mod Held
+pub mod Wider

@@ -10,8 +10,8 @@ pub around : placed (0 ∷ 0 ∷ 1 ∷ []) (9 ∷ 9 ∷ 9 ∷ []) (7 ∷ 0 ∷ 0
 unfolding placed
 around = refl
 
--- one cell fewer: row 1 has no displacement after 2 tried, and the cells are as they were
-pub back : placed (0 ∷ 0 ∷ 1 ∷ []) (9 ∷ 9 ∷ 9 ∷ []) (7 ∷ 0 ∷ []) 0 ≡ left (record { end = NoFit 1 2; tries = 2 }) (0 ∷ 0 ∷ 0 ∷ []) (7 ∷ 0 ∷ [])
+-- one cell fewer: row 1 has no displacement after 2 tried, 3 cells would do, and the cells are as they were
+pub back : placed (0 ∷ 0 ∷ 1 ∷ []) (9 ∷ 9 ∷ 9 ∷ []) (7 ∷ 0 ∷ []) 0 ≡ left (record { end = NoFit 1 2 3; tries = 2 }) (0 ∷ 0 ∷ 0 ∷ []) (7 ∷ 0 ∷ [])
 unfolding placed
 back = refl
 

@@ -81,7 +81,7 @@ settle P h g =
     let answer : Placed = record { end = P .end; tries = P .state .tries } in
     elim (P .end) [
       | All ↦ left answer (P .state .h) (P .state .g)
-      | NoFit row tried ↦ left answer h g
+      | NoFit row tried cells ↦ left answer h g
       | Unfit ↦ left answer h g
     ]
 

@@ -1,5 +1,5 @@
 -- First fit of one row into the cells.
-use Prim.Native.Nat.{ℕ, zero, suc, _+_}
+use Prim.Native.Nat.{ℕ, zero, suc, _+_, max}
 use mathlib.Core.Bool.{Bool, true, false, _&&_}
 use mathlib.Core.List.{List, [], _∷_}
 use lib.Dec.{eqb, ltb}
@@ -31,13 +31,29 @@ unfoldable pub fitsAt : List ℕ → ℕ → List Care → Bool
 unfolding inside clear
 fitsAt g d cs = inside (length g) d cs && clear g d cs
 
--- the displacement found, or none after so many tried, which are those that keep every column below the number of cells; from d on, f of them at the most
+-- the smallest displacement at which each column's cell is free, past the cells too; from d on, f of them at the most
+unfoldable pub freeFrom : ℕ → ℕ → List ℕ → List Care → ℕ
+unfolding clear
+freeFrom zero d g cs = d
+freeFrom (suc f) d g cs = elim (clear g d cs) [ true ↦ d | false ↦ freeFrom f (suc d) g cs ]
+
+-- how many cells it takes to be inside at d
+unfoldable pub reach : ℕ → List Care → ℕ
+reach d [] = 0
+reach d (c ∷ cs) = max (suc (cellOf c d)) (reach d cs)
+
+-- the least number of cells with which the row would fit, those besides g being free (SCOPE 7.7); at the number of cells each cell is free
+unfoldable pub needed : List ℕ → List Care → ℕ
+unfolding freeFrom reach
+needed g cs = reach (freeFrom (length g) 0 g cs) cs
+
+-- the displacement found; or none after so many tried, which are those that keep every column below the number of cells, and how many cells would do; from d on, f of them at the most
 unfoldable pub fitFrom : ℕ → ℕ → List ℕ → List Care → Fit
-unfolding inside clear
-fitFrom zero d g cs = None d
+unfolding inside clear needed
+fitFrom zero d g cs = None d (needed g cs)
 fitFrom (suc f) d g cs =
     elim (inside (length g) d cs) [
-      | false ↦ None d
+      | false ↦ None d (needed g cs)
       | true ↦ elim (clear g d cs) [ true ↦ At d | false ↦ fitFrom f (suc d) g cs ]
     ]
 

@@ -17,7 +17,7 @@ pub record State : Type 0 where
   pub tries : ℕ
   pub order : List ℕ
 
--- all rows with a weight are placed; or there is no displacement for a row, in its turn, after so many tried
+-- all rows with a weight are placed; or there is no displacement for a row, in its turn, after so many tried, and so many cells would do
 pub record Placing : Type 0 where
   pub end : End
   pub state : State
@@ -36,7 +36,7 @@ placeIn (suc f) cs s =
       | true ↦ record { end = All; state = s }
       | false ↦ elim (firstFit (s .g) (inRow (b .row) cs)) [
         | At d ↦ placeIn f cs (placeRow cs s (b .row) d)
-        | None tried ↦ record { end = NoFit (b .row) tried; state = s }
+        | None tried cells ↦ record { end = NoFit (b .row) tried cells; state = s }
       ]
     ]
 

@@ -16,10 +16,11 @@ mod sweep;
 // The owner's bit is this or 0.
 const OWNER: u16 = 1 << 15;
 
-// Whether all rows are placed; or the row that has no displacement, and how many were tried; or what was lent cannot be placed.
+// Whether all rows are placed; or the row that has no displacement, how many were tried, and the least number of cells with which it would
+// have one after the same earlier rows; or what was lent cannot be placed.
 pub enum End {
     All,
-    NoFit(usize, usize),
+    NoFit(usize, usize, usize),
     Unfit,
 }
 
@@ -84,7 +85,8 @@ pub fn place(aux: &mut [u64], h: &mut [u16], g: &mut [u16], owner: u16) -> Place
         };
     }
     links::link(aux, h);
-    let mut taken = room::take_cells(g);
+    let mut taken = [0u64; room::TAKEN_WORDS];
+    room::take_cells(g, &mut taken);
     let placed = sweep::place_rows(aux, h, g, &mut taken, owner);
     links::unlink(aux);
     placed

@@ -2,23 +2,26 @@
 ghost use mathlib.Core.Path.{_≡_};
 ghost use mathlib.Core.Bool.{true};
 ghost use Prim.Native.Nat.{ℕ, _+_, _-_, _/_, _^_, _≤_, _<_};
-ghost use lib.ListN.{length};
+ghost use lib.ListN.{length, replicate};
 ghost use Rattle.vectors.specs.Bits.{bit};
-ghost use Rattle.vectors.specs.Bounds.{maxCells};
+ghost use Rattle.vectors.specs.Bounds.{maxCells, maxRows};
 ghost use Rattle.rows.specs.Fit as fits;
-ghost use Rattle.rows.specs.Inner.Chains.{chain, chainOf, Rises, topOf};
-ghost use Rattle.rows.specs.Inner.Taken.{takenWords, bitIn, Taken, shutRow};
+ghost use Rattle.rows.specs.Inner.Chains.{chain, chainOf, Rises, topOf, fitAt};
+ghost use Rattle.rows.specs.Inner.Taken.{takenCells, takenWords, bitIn, Taken, shutRow};
 use crate::links::column;
 use crate::links::next;
 use vectors::MAX_CELLS;
+use vectors::MAX_ROWS;
 
-// Words for 64 cells from each cell on.
-pub(crate) const TAKEN_WORDS: usize = MAX_CELLS / 64 + 1;
+// At a displacement below the number of cells each column's cell is one of TAKEN_CELLS; words for 64 cells from each of these on.
+const TAKEN_CELLS: usize = MAX_CELLS + MAX_ROWS;
 
-// The displacement found, or none, after so many tried.
+pub(crate) const TAKEN_WORDS: usize = TAKEN_CELLS / 64 + 1;
+
+// The displacement found; or none, after so many tried, and the least number of cells with which there is one.
 pub(crate) enum Fit {
     At(usize),
-    None(usize),
+    None(usize, usize),
 }
 
 // The largest column of the row whose first vector is first.
@@ -53,7 +56,7 @@ fn window(taken: &[u64], start: usize) -> u64
 // Which of the 64 displacements from d on the row has no room at: bit t for d + t.
 fn shut(aux: &[u64], taken: &[u64], first: usize, d: usize) -> u64
     requires linked { ⌜ Rises 0 (now aux) ⌝ }
-    requires inside { ⌜ (0 < first) × (fits.inside maxCells d (chain (now aux) first) ≡ true) × (length (now taken) ≡ takenWords) ⌝ }
+    requires inside { ⌜ (0 < first) × (fits.inside takenCells d (chain (now aux) first) ≡ true) × (length (now taken) ≡ takenWords) ⌝ }
     ensures { λ r. ⌜ ((t : ℕ) → t < 64 → bit r t ≡ shutRow (now (taken .entry)) (d + t) (chain (now (aux .entry)) first)) ⌝ }
 {
     let mut closed = 0;
@@ -69,7 +72,21 @@ fn shut(aux: &[u64], taken: &[u64], first: usize, d: usize) -> u64
     closed
 }
 
-// The smallest displacement at which the row fits, 64 tried at a time.
+// The first fit of a row with the largest column c, d being the smallest displacement at which its cells are free, past the cells too.
+fn fit_at(c: usize, d: usize, cells: usize) -> Fit
+    requires { ⌜ (c < maxRows) × (d < takenCells) ⌝ }
+    ensures { λ r. ⌜ r ≡ fitAt c d cells ⌝ }
+{
+    if c + d < cells {
+        return Fit::At(d);
+    }
+    if c < cells {
+        return Fit::None(cells - c, c + d + 1);
+    }
+    Fit::None(0, c + d + 1)
+}
+
+// The smallest displacement at which the row fits: the smallest at which its cells are free, 64 looked at at a time.
 pub(crate) fn first_fit(aux: &[u64], g: &[u16], taken: &[u64], first: usize) -> Fit
     requires linked { ⌜ Rises 0 (now aux) ⌝ }
     requires inside { ⌜ (0 < first) × (first < length (now aux)) × (length (now g) ≤ maxCells) ⌝ }
@@ -78,21 +95,15 @@ pub(crate) fn first_fit(aux: &[u64], g: &[u16], taken: &[u64], first: usize) -> 
 {
     let c = top(aux, first);
     let mut d = 0;
-    while c + d < g.len() {
+    while d < g.len() {
         let open = !shut(aux, taken, first, d);
         if open != 0 {
             let e = d + u64::trailing_zeros(open) as usize;
-            if c + e < g.len() {
-                return Fit::At(e);
-            }
-            return Fit::None(g.len() - c);
+            return fit_at(c, e, g.len());
         }
         d += 64;
     }
-    if c < g.len() {
-        return Fit::None(g.len() - c);
-    }
-    Fit::None(0)
+    fit_at(c, d, g.len())
 }
 
 // Writes the row's indices into the cells, which are taken from then on.
@@ -120,12 +131,12 @@ pub(crate) fn put_row(
     }
 }
 
-// The bits of the cells.
-pub(crate) fn take_cells(g: &[u16]) -> [u64; TAKEN_WORDS]
-    requires { ⌜ length (now g) ≤ maxCells ⌝ }
-    ensures { λ r. ⌜ Taken (now (g .entry)) r ⌝ }
+// The bits of the cells, in words that are 0.
+pub(crate) fn take_cells(g: &[u16], taken: &mut [u64; TAKEN_WORDS])
+    requires inside { ⌜ length (now g) ≤ maxCells ⌝ }
+    requires blank { ⌜ now taken ≡ replicate takenWords 0 ⌝ }
+    ensures { λ _. ⌜ Taken (now (g .entry)) (now (taken .exit)) ⌝ }
 {
-    let mut taken = [0u64; TAKEN_WORDS];
     let mut i = 0;
     while i < g.len() {
         let c = i;
@@ -134,5 +145,4 @@ pub(crate) fn take_cells(g: &[u16]) -> [u64; TAKEN_WORDS]
             taken[c / 64] = taken[c / 64] | (1u64 << (c % 64));
         }
     }
-    taken
 }

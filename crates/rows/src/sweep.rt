@@ -57,7 +57,7 @@ fn place_row(
             h[row] = d as u16;
             Fit::At(d)
         }
-        Fit::None(tried) => Fit::None(tried),
+        Fit::None(tried, cells) => Fit::None(tried, cells),
     }
 }
 
@@ -94,11 +94,11 @@ pub(crate) fn place_rows(
                     Fit::At(d) => {
                         tries += d as u64 + 1;
                     }
-                    Fit::None(tried) => {
+                    Fit::None(tried, cells) => {
                         undo(aux, h, g);
                         lists::clear16(h);
                         return Placed {
-                            end: End::NoFit(row, tried),
+                            end: End::NoFit(row, tried, cells),
                             tries,
                         };
                     }

@@ -133,6 +133,7 @@ withTries tries o =
       built = record {
         refusal = o .built .refusal;
         place = o .built .place;
+        needed = o .built .needed;
         unit = record {
           n = o .built .unit .n;
           p = o .built .unit .p;

@@ -176,6 +176,8 @@ givenCauses n p n1 ks cells vs t = listCauses n (TooMany p n1) cells vs t ++ (va
 pub record Leaves (n1 cells k : ℕ) (t : Tables) (o : Outcome) : Type 0 where
   -- SCOPE 11.4: the blank record beside any refusal
   pub blank : 0 < o .built .refusal → o .built .unit ≡ blankRecord
+  -- SCOPE 11.9: no cells are needed but beside 13
+  pub none-needed : (o .built .refusal ≡ 13 → ⊥) → o .built .needed ≡ 0
   -- SCOPE 11.5: 1 to 12 have written no word
   pub untouched : 0 < o .built .refusal → o .built .refusal < 13 → o .tables ≡ t
   -- SCOPE 11.6: 13 leaves zeros in the words of the unit, and no other word altered

@@ -15,7 +15,7 @@ use Rattle.vectors.specs.Bounds.{maxVariables}
 use Rattle.vectors.specs.Variable.{blankVariable}
 use Rattle.record.specs.Record.{blankRecord, log2Up, floorOf, floorWithZero}
 use Rattle.record.specs.Tables.{Tables}
-use Rattle.build.specs.Build.{Outcome, buildChosen, buildGiven, caresFrom}
+use Rattle.build.specs.Build.{Outcome, buildChosen, buildGiven, caresFrom, refused}
 use Rattle.lookup.specs.Lookup.{found, lookupOf}
 use Rattle.recover.specs.Recover.{recovered, recoverOf}
 
@@ -55,8 +55,8 @@ printed cells = buildChosen 6 2 cells S (nines 5 8 9)
 abbrev table41 : ℕ → Outcome
 table41 cells = buildGiven 6 (given (One 4 ∷ One 5 ∷ One 6 ∷ One 1 ∷ One 2 ∷ One 3 ∷ [])) 6 3 cells S (nines 9 9 9)
 
-abbrev refusal : ℕ → ℕ → Tables → Outcome
-refusal number place t = record { built = record { refusal = number; place = place; unit = blankRecord }; tables = t }
+abbrev noRoom : ℕ → ℕ → Tables → Outcome
+noRoom row needed t = record { built = record { refusal = 13; place = row; needed = needed; unit = blankRecord }; tables = t }
 
 pub record Table : Type 0 where
   -- SCOPE 15.2: four single inputs, and the pairs that each leaves
@@ -69,6 +69,7 @@ pub record Table : Type 0 where
     built = record {
       refusal = 0;
       place = 0;
+      needed = 0;
       unit = record {
         n = 6;
         p = 3;
@@ -88,7 +89,7 @@ pub record Table : Type 0 where
     };
   }
   -- SCOPE 15.4: one cell less
-  pub cells-6 : printed 6 ≡ refusal 13 3 (record { h = replicate 4 0 ++ (9 ∷ []); g = replicate 6 0 ++ (9 ∷ 9 ∷ []); aux = replicate 8 0 ++ (9 ∷ []) })
+  pub cells-6 : printed 6 ≡ noRoom 3 7 (record { h = replicate 4 0 ++ (9 ∷ []); g = replicate 6 0 ++ (9 ∷ 9 ∷ []); aux = replicate 8 0 ++ (9 ∷ []) })
   -- SCOPE 15.5: two keys and an index
   pub lookup-6 : lookupOf (printed 7 .built .unit) (printed 7 .tables) 6 ≡ found 0
   pub lookup-20 : lookupOf (printed 7 .built .unit) (printed 7 .tables) 20 ≡ found 3
@@ -98,6 +99,7 @@ pub record Table : Type 0 where
     built = record {
       refusal = 0;
       place = 0;
+      needed = 0;
       unit = record {
         n = 6;
         p = 6;
@@ -117,13 +119,14 @@ pub record Table : Type 0 where
     };
   }
   -- SCOPE 15.7: with fewer cells
-  pub given-7 : table41 7 ≡ refusal 13 6 (record { h = replicate 8 0 ++ (9 ∷ []); g = replicate 7 0 ++ (9 ∷ 9 ∷ []); aux = replicate 8 0 ++ (9 ∷ []) })
-  pub given-5 : table41 5 ≡ refusal 13 3 (record { h = replicate 8 0 ++ (9 ∷ []); g = replicate 5 0 ++ replicate 4 9; aux = replicate 8 0 ++ (9 ∷ []) })
+  pub given-7 : table41 7 ≡ noRoom 6 8 (record { h = replicate 8 0 ++ (9 ∷ []); g = replicate 7 0 ++ (9 ∷ 9 ∷ []); aux = replicate 8 0 ++ (9 ∷ []) })
+  pub given-5 : table41 5 ≡ noRoom 3 6 (record { h = replicate 8 0 ++ (9 ∷ []); g = replicate 5 0 ++ replicate 4 9; aux = replicate 8 0 ++ (9 ∷ []) })
   -- SCOPE 15.8: a list that is spread out
   pub spread-out : buildGiven 3 (given (One 1 ∷ One 2 ∷ One 3 ∷ [])) 3 2 6 (0 ∷ 1 ∷ 2 ∷ 3 ∷ []) (nines 4 6 5) ≡ record {
     built = record {
       refusal = 0;
       place = 0;
+      needed = 0;
       unit = record {
         n = 3;
         p = 3;
@@ -144,6 +147,7 @@ pub record Table : Type 0 where
     built = record {
       refusal = 0;
       place = 0;
+      needed = 0;
       unit = record {
         n = 6;
         p = 0;
@@ -159,15 +163,16 @@ pub record Table : Type 0 where
     tables = record { h = 0 ∷ []; g = 1 ∷ []; aux = 0 ∷ 16 ∷ [] };
   }
   -- SCOPE 15.10: a vector twice, and one with a bit too many
-  pub equal : buildChosen 6 1 1 (5 ∷ 5 ∷ []) (nines 1 1 3) ≡ refusal 7 2 (nines 1 1 3)
-  pub beyond : buildChosen 6 1 1 (64 ∷ []) (nines 1 1 2) ≡ refusal 6 1 (nines 1 1 2)
+  pub equal : buildChosen 6 1 1 (5 ∷ 5 ∷ []) (nines 1 1 3) ≡ refused (record { number = 7; place = 2 }) (nines 1 1 3)
+  pub beyond : buildChosen 6 1 1 (64 ∷ []) (nines 1 1 2) ≡ refused (record { number = 6; place = 1 }) (nines 1 1 2)
   -- SCOPE 15.11: no vectors
-  pub empty : buildChosen 6 1 1 [] (nines 1 1 1) ≡ refusal 3 0 (nines 1 1 1)
+  pub empty : buildChosen 6 1 1 [] (nines 1 1 1) ≡ refused (record { number = 3; place = 0 }) (nines 1 1 1)
   -- SCOPE 15.14: eight vectors, three variables, no excess; the two floors for eight
   pub eight : buildChosen 3 1 8 (0 ∷ 1 ∷ 2 ∷ 3 ∷ 4 ∷ 5 ∷ 6 ∷ 7 ∷ []) (nines 4 8 9) ≡ record {
     built = record {
       refusal = 0;
       place = 0;
+      needed = 0;
       unit = record {
         n = 3;
         p = 3;

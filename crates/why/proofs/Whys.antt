@@ -1,6 +1,6 @@
 -- The line for a text, from what is read, scanned and built. Assumes nothing.
 use Prim.Native.Nat.{ℕ}
-use mathlib.Core.Path.{_≡_, refl, sym, ap, _∙_}
+use mathlib.Core.Path.{_≡_, sym, ap, _∙_}
 use mathlib.Core.Bool.{Bool, true, false}
 use mathlib.Core.List.{List}
 use lib.ListN.{getD, drop}
@@ -8,19 +8,11 @@ use Rattle.build.specs.declared.Built.{Built}
 use Rattle.input.specs.declared.Input.{Input}
 use Rattle.input.specs.Input.{maxListed, goodText, numbersIn, inputFrom, inputOf}
 use Rattle.answer.specs.Make.{roomy, makeOf}
+use Rattle.answer.proofs.Makes.{read-is, from-numbers}
 use Rattle.fault.specs.Fault.{faultOf}
 use Rattle.fault.proofs.Faults.{fault-iff}
 use Rattle.why.specs.Facts.{GoesByFault}
 use Rattle.why.specs.Why.{faultText, builtText, answeredText, whyBy, whyOf}
-
--- a text reads as good when it is
-good-is : (text : List ℕ) (room : ℕ) → inputOf text room .good ≡ goodText text room
-unfolding inputOf inputFrom
-good-is text room = go (goodText text room) refl
-  where
-    go : (t : Bool) → goodText text room ≡ t → inputOf text room .good ≡ t
-    go true q = rw (q, inputOf)
-    go false q = rw (q, inputOf)
 
 pub why-bad : (text : List ℕ) → goodText text maxListed ≡ false → faultText (faultOf text) ≡ whyOf text
 unfolding whyOf whyBy
@@ -40,18 +32,11 @@ unfolding makeOf
 make-good text y = rw (y, makeOf)
 
 module _ (text : List ℕ) (i : Input) (e : i ≡ inputOf text maxListed) where
-  pub read-is : {t : Bool} → i .good ≡ t → goodText text maxListed ≡ t
-  read-is q = sym (good-is text maxListed) ∙ sym (ap (λ (j : Input). j .good) e) ∙ q
-
-  from-numbers : i .good ≡ true → i ≡ inputFrom (numbersIn text)
-  unfolding inputOf
-  from-numbers y = e ∙ rw (read-is y, inputOf)
-
   pub said-good : i .good ≡ true → (b : Built) (vs : List ℕ) → b ≡ makeOf text roomy .outcome .built → vs ≡ drop 3 (numbersIn text)
       → builtText b (i .n) (i .degree) (i .cells) vs ≡ whyOf text
   unfolding inputFrom
   said-good y b vs p q =
-      ap (λ (j : Input). builtText b (j .n) (j .degree) (j .cells) vs) (from-numbers y)
+      ap (λ (j : Input). builtText b (j .n) (j .degree) (j .cells) vs) (from-numbers text i e y)
       ∙ ap (λ (l : List ℕ). builtText b (getD (numbersIn text) 0 0) (getD (numbersIn text) 1 0) (getD (numbersIn text) 2 0) l) q
       ∙ ap (λ (x : Built). answeredText x (numbersIn text)) p
-      ∙ why-good text (read-is y)
+      ∙ why-good text (read-is text i e y)

@@ -21,8 +21,9 @@ use Rattle.find.proofs.Fits.{find-fits}
 use Rattle.why.proofs.Fits.{why-fits}
 use Rattle.keys.proofs.Fits.{keys-fits}
 use Rattle.input.specs.Opens.{opens}
-use Rattle.words.specs.Words.{pageSize, says, packWord, whyWord, keysWord, showWord, listWord, findWord, asksFile, ofUnit, ofReading, ofFile, wordsOf}
-use Rattle.words.proofs.Writing.{file-refused, file-read, words-none, words-pack, words-why, words-keys, words-file, words-other}
+use Rattle.words.specs.Words.{pageSize, says, packWord, whyWord, cellsWord, keysWord, showWord, listWord, findWord, asksFile, ofUnit, ofReading, ofFile, wordsOf}
+use Rattle.words.proofs.Writing.{file-refused, file-read, words-none, words-pack, words-why, words-cells, words-keys, words-file, words-other}
+use Rattle.cells.proofs.Fits.{cells-fits}
 
 unit-fits : (given : List ℕ) (u : Record) (t : Tables) → Loaded u t → length (ofUnit given u t) ≤ pageSize
 unfolding ofUnit
@@ -55,16 +56,17 @@ file-fits given file = go (eqb (r .refusal) 0) refl
 
 -- of all words and texts
 pub words-fits : (given text : List ℕ) → length (wordsOf given text) ≤ pageSize
-words-fits given text = go (eqb (length given) 0) refl (says packWord given) refl (says whyWord given) refl (opens keysWord given) refl (asksFile given) refl
+words-fits given text = go (eqb (length given) 0) refl (says packWord given) refl (says whyWord given) refl (says cellsWord given) refl (opens keysWord given) refl (asksFile given) refl
   where
     rest : List ℕ
     rest = take (length given - length keysWord) (drop (length keysWord) given)
 
-    go : (a : Bool) → eqb (length given) 0 ≡ a → (b : Bool) → says packWord given ≡ b → (w : Bool) → says whyWord given ≡ w → (k : Bool) → opens keysWord given ≡ k
-        → (c : Bool) → asksFile given ≡ c → length (wordsOf given text) ≤ pageSize
-    go true p b q w v k u c r = omega (arith, answer-fits text, ap length (words-none given text (eqb-true (length given) 0 p)))
-    go false p true q w v k u c r = omega (arith, pack-fits text, ap length (words-pack given text (eqb-false (length given) 0 p) q))
-    go false p false q true v k u c r = omega (arith, why-fits text, ap length (words-why given text (eqb-false (length given) 0 p) q v))
-    go false p false q false v true u c r = omega (arith, keys-fits rest text, ap length (words-keys given text (eqb-false (length given) 0 p) q v u))
-    go false p false q false v false u true r = omega (arith, file-fits given text, ap length (words-file given text (eqb-false (length given) 0 p) q v u r))
-    go false p false q false v false u false r = omega (arith, ap length (words-other given text (eqb-false (length given) 0 p) q v u r))
+    go : (a : Bool) → eqb (length given) 0 ≡ a → (b : Bool) → says packWord given ≡ b → (w : Bool) → says whyWord given ≡ w → (d : Bool) → says cellsWord given ≡ d
+        → (k : Bool) → opens keysWord given ≡ k → (c : Bool) → asksFile given ≡ c → length (wordsOf given text) ≤ pageSize
+    go true p b q w v d x k u c r = omega (arith, answer-fits text, ap length (words-none given text (eqb-true (length given) 0 p)))
+    go false p true q w v d x k u c r = omega (arith, pack-fits text, ap length (words-pack given text (eqb-false (length given) 0 p) q))
+    go false p false q true v d x k u c r = omega (arith, why-fits text, ap length (words-why given text (eqb-false (length given) 0 p) q v))
+    go false p false q false v true x k u c r = omega (arith, cells-fits text, ap length (words-cells given text (eqb-false (length given) 0 p) q v x))
+    go false p false q false v false x true u c r = omega (arith, keys-fits rest text, ap length (words-keys given text (eqb-false (length given) 0 p) q v x u))
+    go false p false q false v false x false u true r = omega (arith, file-fits given text, ap length (words-file given text (eqb-false (length given) 0 p) q v x u r))
+    go false p false q false v false x false u false r = omega (arith, ap length (words-other given text (eqb-false (length given) 0 p) q v x u r))

@@ -23,7 +23,8 @@ use Rattle.find.specs.Find.{findText}
 use Rattle.why.specs.Why.{whyOf}
 use Rattle.keys.specs.Keys.{keysOf}
 use Rattle.input.specs.Opens.{opens}
-use Rattle.words.specs.Words.{says, packWord, whyWord, keysWord, showWord, listWord, findWord, asksFile, ofUnit, ofReading, ofFile, otherwise, wordsOf}
+use Rattle.words.specs.Words.{says, packWord, whyWord, cellsWord, keysWord, showWord, listWord, findWord, asksFile, ofUnit, ofReading, ofFile, otherwise, wordsOf}
+use Rattle.cells.specs.Cells.{cellsOf}
 use Rattle.words.specs.Inner.{unitPrinted}
 use Rattle.input.proofs.Opening.{opens-long}
 use Rattle.words.proofs.Tests.{asks-find}
@@ -103,21 +104,26 @@ module _ (given text : List ℕ) where
       words-why h = rw (ne-eqb (length given) 0 some, no-pack, h, wordsOf)
 
       module _ (no-why : says whyWord given ≡ false) where
-        pub words-keys : opens keysWord given ≡ true → keysOf (take (length given - length keysWord) (drop (length keysWord) given)) text ≡ wordsOf given text
+        pub words-cells : says cellsWord given ≡ true → cellsOf text ≡ wordsOf given text
         unfolding wordsOf
-        words-keys h =
-            rw (ne-eqb (length given) 0 some, no-pack, no-why, h, wordsOf)
-            (ap (λ (l : List ℕ). keysOf l text) (take-all (length given - length keysWord) (drop (length keysWord) given) (omega (arith, length-drop (length keysWord) given))))
+        words-cells h = rw (ne-eqb (length given) 0 some, no-pack, no-why, h, wordsOf)
 
-        module _ (no-keys : opens keysWord given ≡ false) where
-          left : otherwise given text ≡ wordsOf given text
+        module _ (no-cells : says cellsWord given ≡ false) where
+          pub words-keys : opens keysWord given ≡ true → keysOf (take (length given - length keysWord) (drop (length keysWord) given)) text ≡ wordsOf given text
           unfolding wordsOf
-          left = rw (ne-eqb (length given) 0 some, no-pack, no-why, no-keys, wordsOf)
+          words-keys h =
+              rw (ne-eqb (length given) 0 some, no-pack, no-why, no-cells, h, wordsOf)
+              (ap (λ (l : List ℕ). keysOf l text) (take-all (length given - length keysWord) (drop (length keysWord) given) (omega (arith, length-drop (length keysWord) given))))
 
-          pub words-file : asksFile given ≡ true → ofFile given text ≡ wordsOf given text
-          unfolding otherwise
-          words-file h = let q : ofFile given text ≡ otherwise given text = rw (h, otherwise) in q ∙ left
+          module _ (no-keys : opens keysWord given ≡ false) where
+            left : otherwise given text ≡ wordsOf given text
+            unfolding wordsOf
+            left = rw (ne-eqb (length given) 0 some, no-pack, no-why, no-cells, no-keys, wordsOf)
 
-          pub words-other : asksFile given ≡ false → inputText ≡ wordsOf given text
-          unfolding otherwise
-          words-other h = let q : inputText ≡ otherwise given text = rw (h, otherwise) in q ∙ left
+            pub words-file : asksFile given ≡ true → ofFile given text ≡ wordsOf given text
+            unfolding otherwise
+            words-file h = let q : ofFile given text ≡ otherwise given text = rw (h, otherwise) in q ∙ left
+
+            pub words-other : asksFile given ≡ false → inputText ≡ wordsOf given text
+            unfolding otherwise
+            words-other h = let q : inputText ≡ otherwise given text = rw (h, otherwise) in q ∙ left

@@ -18,6 +18,7 @@ use Rattle.listing.specs.Listing.{listText}
 use Rattle.find.specs.Find.{findText}
 use Rattle.why.specs.Why.{whyOf}
 use Rattle.keys.specs.Keys.{keysOf}
+use Rattle.cells.specs.Cells.{cellsOf}
 
 -- bytes that everything written fits into
 abbrev pub pageSize : ℕ
@@ -35,6 +36,9 @@ whyWord = ascii "why\n"
 
 abbrev pub keysWord : List ℕ
 keysWord = ascii "keys\n"
+
+abbrev pub cellsWord : List ℕ
+cellsWord = ascii "cells\n"
 
 abbrev pub showWord : List ℕ
 showWord = ascii "show\n"
@@ -77,11 +81,18 @@ unfoldable pub otherwise : List ℕ → List ℕ → List ℕ
 unfolding asksFile ofFile
 otherwise given text = elim (asksFile given) [ true ↦ ofFile given text | false ↦ inputText ]
 
--- no word: the unit of a list printed; `pack`: its file; `why`: what is wrong with it; `keys`, with degree and L behind it or alone: the file of the unit of a list of profile keys
+-- no word: the unit of a list printed; `pack`: its file; `why`: what is wrong with it; `cells`: its least L; `keys`, with degree and L behind it
+-- or alone: the file of the unit of a list of profile keys
 unfoldable pub wordsOf : List ℕ → List ℕ → List ℕ
-unfolding answerOf packOf whyOf keysOf opens otherwise
+unfolding answerOf packOf whyOf cellsOf keysOf opens otherwise
 wordsOf given text =
     elim (eqb (length given) 0) [
       | true ↦ answerOf text
-      | false ↦ elim (says packWord given) [ true ↦ packOf text | false ↦ elim (says whyWord given) [ true ↦ whyOf text | false ↦ elim (opens keysWord given) [ true ↦ keysOf (drop (length keysWord) given) text | false ↦ otherwise given text ] ] ]
+      | false ↦ elim (says packWord given) [
+        | true ↦ packOf text
+        | false ↦ elim (says whyWord given) [
+          | true ↦ whyOf text
+          | false ↦ elim (says cellsWord given) [ true ↦ cellsOf text | false ↦ elim (opens keysWord given) [ true ↦ keysOf (drop (length keysWord) given) text | false ↦ otherwise given text ] ]
+        ]
+      ]
     ]

@@ -82,6 +82,9 @@ pub fn words(given: &[u8], text: &[u8], out: &mut [u8]) -> usize
     if says(b"why\n", given) {
         return why::why(text, out);
     }
+    if says(b"cells\n", given) {
+        return cells::cells(text, out);
+    }
     if input::opens(b"keys\n", given) {
         return keys::keys(&given[5..], text, out);
     }

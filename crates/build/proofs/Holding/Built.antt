@@ -8,6 +8,7 @@ use mathlib.Core.List.{List, map}
 use lib.Count.{ones}
 use lib.ListN.{length, getD, drop, replicate, length-replicate, length-append, length-map, List·getD-append}
 use borrow.Author.Tests.{eq-eqb, lt-ltb, le-ltb, le-leb}
+use Rattle.lists.specs.Members.{In}
 use Rattle.lists.proofs.Entries.Members.{getD-map}
 use Rattle.lists.proofs.Entries.Alls.{all-at}
 use Rattle.lists.proofs.Finding.Repeats.{repeated-zero}
@@ -85,6 +86,10 @@ module _ (n n1 : ℕ) (second : Refusal) (ks : List Kind) (cells : ℕ) (vs : Li
       (λ c m. let q = cares-entry n1 ks 1 vs c m in omega (arith, ap (λ (x : Care). x .row) (q .is), row-lt n1 ks (getD vs (q .at) 0) (R .split .rows-in)))
       e (careOf n1 ks (1 + i) (getD vs i 0)) (cares-in n1 ks 1 vs i l) in
       (rw (length-replicate cells) at (r .0), r .1 ∙ omega arith)
+
+  -- the cell of a vector is taken
+  pub care-held : (c : Care) → In c cs → getD g (c .column + getD h (c .row) 0) 0 ≡ 0 → ⊥
+  care-held c m z = let q = cares-entry n1 ks 1 vs c m in omega (arith, held (q .at) (q .below) .1, rw (q .is) at z)
 
   -- a cell that is not empty holds a vector that leads there
   only : (cell : ℕ) → cell < cells → (getD g cell 0 ≡ 0 → ⊥) → Lies cs (placingOf n1 ks cells vs .state) cell

@@ -14,7 +14,7 @@ use Rattle.rows.proofs.Placing.Turns.{ended}
 use Rattle.record.specs.Record.{recordOf}
 use Rattle.build.specs.declared.Refusal.{Refusal}
 use Rattle.record.specs.Tables.{Tables}
-use Rattle.build.specs.Build.{Outcome, caresFrom, placingOf, accepted, refused, written, zeroed, finish, outcome}
+use Rattle.build.specs.Build.{Outcome, caresFrom, placingOf, accepted, refusedFor, written, zeroed, finish, outcome}
 use Rattle.build.proofs.Refusing.Ladder.{outcome-refused, outcome-passed}
 
 -- ---- the placing
@@ -47,10 +47,10 @@ module _ (n n1 : ℕ) (ks : List Kind) (cells : ℕ) (vs : List ℕ) (t : Tables
   unfolding finish
   finish-all e = rw (e, finish)
 
-  pub finish-stuck : (row tried : ℕ) → placingOf n1 ks cells vs .end ≡ NoFit row tried
-      → finish n n1 ks cells vs t ≡ refused (record { number = 13; place = row }) (zeroed n1 cells (length vs) t)
+  pub finish-stuck : (row tried needed : ℕ) → placingOf n1 ks cells vs .end ≡ NoFit row tried needed
+      → finish n n1 ks cells vs t ≡ refusedFor (record { number = 13; place = row }) needed (zeroed n1 cells (length vs) t)
   unfolding finish
-  finish-stuck row tried e = rw (e, finish)
+  finish-stuck row tried needed e = rw (e, finish)
 
   -- accepted: past refusals 1 to 12, and all rows are placed
   pub record Accepted (r : Refusal) : Type 0 where
@@ -64,8 +64,8 @@ module _ (n n1 : ℕ) (ks : List Kind) (cells : ℕ) (vs : List ℕ) (t : Tables
       go : (r .number ≡ 0) ⊎ (0 < r .number) → (e : End) → placingOf n1 ks cells vs .end ≡ e → Accepted r
       go (inr l) e q = absurd (omega (arith, ap (λ (o : Outcome). o .built .refusal) (outcome-refused r n n1 ks cells vs t (λ z. omega arith))))
       go (inl z) All q = record { passed = z; placed = q; is = outcome-passed r n n1 ks cells vs t z ∙ finish-all q }
-      go (inl z) (NoFit row tried) q =
-          absurd (omega (arith, ap (λ (o : Outcome). o .built .refusal) (outcome-passed r n n1 ks cells vs t z ∙ finish-stuck row tried q)))
+      go (inl z) (NoFit row tried needed) q =
+          absurd (omega (arith, ap (λ (o : Outcome). o .built .refusal) (outcome-passed r n n1 ks cells vs t z ∙ finish-stuck row tried needed q)))
       go (inl z) Unfit q = absurd (placing-ends n1 ks cells vs q)
 
   -- all rows are placed: accepted

@@ -59,13 +59,13 @@ module _ (n n1 : ℕ) (ks : List Kind) (vs h g aux : List ℕ) (sh : length h �
       (finish-all n n1 ks (length g) vs (lent h g aux) e
       ∙ rw (over-whole (placingOf n1 ks (length g) vs .state .h) h (s .0 ∙ sym sh), over-whole (placingOf n1 ks (length g) vs .state .g) g (s .1), over-whole (auxOf n n1 ks vs) aux (aux-size n n1 ks vs ∙ sym sa))))
 
-  pub end-stuck : (row tried : ℕ) → placingOf n1 ks (length g) vs .end ≡ NoFit row tried → r ≡ record { refusal = 13; place = row; unit = blankRecord }
+  pub end-stuck : (row tried needed : ℕ) → placingOf n1 ks (length g) vs .end ≡ NoFit row tried needed → r ≡ record { refusal = 13; place = row; needed = needed; unit = blankRecord }
       → h′ ≡ replicate (length h) 0 → g′ ≡ replicate (length g) 0 → aux′ ≡ replicate (length aux) 0
       → after r h′ g′ aux′ ≡ finish n n1 ks (length g) vs (lent h g aux)
-  end-stuck row tried e er eh eg ea =
+  end-stuck row tried needed e er eh eg ea =
       rw (er, eh, eg, ea, sh, sa)
       (sym
-      (finish-stuck n n1 ks (length g) vs (lent h g aux) row tried e
+      (finish-stuck n n1 ks (length g) vs (lent h g aux) row tried needed e
       ∙ rw (over-whole (replicate (2 ^ n1) 0) h (length-replicate (2 ^ n1) 0 ∙ sym sh), over-whole (replicate (length g) 0) g (length-replicate (length g) 0), over-whole (replicate (suc (length vs)) 0) aux (length-replicate (suc (length vs)) 0 ∙ sym sa))))
 
 -- ---- parts of tables: what is written to the parts is written to the tables, and the words beyond keep their value
@@ -90,16 +90,16 @@ finish-parts n n1 ks cells vs h g aux a b c = go (placingOf n1 ks cells vs .end)
         finish-all n n1 ks cells vs (lent h g aux) e
         ∙ rw (over-part (placingOf n1 ks cells vs .state .h) h (2 ^ n1) (s .0) a, over-part (placingOf n1 ks cells vs .state .g) g cells (s .1) b, over-part (auxOf n n1 ks vs) aux (suc (length vs)) (aux-size n n1 ks vs) c)
         (ap (λ (o : Outcome). beside o (drop (2 ^ n1) h) (drop cells g) (drop (suc (length vs)) aux)) (sym (finish-all n n1 ks cells vs part e)))
-    go (NoFit row tried) e =
-        finish-stuck n n1 ks cells vs (lent h g aux) row tried e
+    go (NoFit row tried needed) e =
+        finish-stuck n n1 ks cells vs (lent h g aux) row tried needed e
         ∙ rw (over-part (replicate (2 ^ n1) 0) h (2 ^ n1) (length-replicate (2 ^ n1) 0) a, over-part (replicate cells 0) g cells (length-replicate cells 0) b, over-part (replicate (suc (length vs)) 0) aux (suc (length vs)) (length-replicate (suc (length vs)) 0) c)
-        (ap (λ (o : Outcome). beside o (drop (2 ^ n1) h) (drop cells g) (drop (suc (length vs)) aux)) (sym (finish-stuck n n1 ks cells vs part row tried e)))
+        (ap (λ (o : Outcome). beside o (drop (2 ^ n1) h) (drop cells g) (drop (suc (length vs)) aux)) (sym (finish-stuck n n1 ks cells vs part row tried needed e)))
     go Unfit e = absurd (placing-ends n1 ks cells vs e)
 
 -- ---- check 12, and the parts
 
 module _ (n n1 : ℕ) (ks : List Kind) (cells : ℕ) (vs h g aux : List ℕ) (r : Built) where
-  pub end-short : length h < 2 ^ n1 → r ≡ record { refusal = 12; place = 0; unit = blankRecord }
+  pub end-short : length h < 2 ^ n1 → r ≡ record { refusal = 12; place = 0; needed = 0; unit = blankRecord }
       → after r h g aux ≡ outcome (check12 n1 h) n n1 ks cells vs (lent h g aux)
   end-short l e =
       let c : check12 n1 h ≡ record { number = 12; place = 0 } = rw (lt-ltb (length h) (2 ^ n1) l) in

@@ -58,7 +58,7 @@ words-are {n} {n1} {ks} {vs} l s =
 -- the record
 pub unit-is : (n n1 k cells tries p kept′ : ℕ) (ks : List Kind) (excess′ : ℤ) (variables′ : List Variable) → p ≡ length ks → kept′ ≡ kept n ks → excess′ ≡ excessOf p k
     → variables′ ≡ variablesOf n1 ks
-    → record { refusal = 0; place = 0; unit = record { n = n; p = p; n1 = n1; k = k; cells = cells; kept = kept′; tries = tries; excess = excess′; variables = variables′ } }
+    → record { refusal = 0; place = 0; needed = 0; unit = record { n = n; p = p; n1 = n1; k = k; cells = cells; kept = kept′; tries = tries; excess = excess′; variables = variables′ } }
     ≡ build.accepted (recordOf n n1 k ks cells tries)
 unfolding recordOf
 unit-is n n1 k cells tries p kept′ ks excess′ variables′ e f g h = rw (g, e, f, h)

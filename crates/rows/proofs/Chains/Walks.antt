@@ -1,5 +1,5 @@
 -- The walks along a row's chain: a turn at the vector j, and the end. Assumes nothing.
-use Prim.Native.Nat.{ℕ, _+_, _-_, _/_, _%_, _^_, max, _≤_, _<_}
+use Prim.Native.Nat.{ℕ, zero, suc, _+_, _-_, _/_, _%_, _^_, max, _≤_, _<_}
 use native.Mathlib.Nat.{mod-lt, zero-div, zero-lt-suc}
 use native.Mathlib.Omega.{arith}
 use mathlib.Core.Path.{_≡_, refl, sym, ap, _∙_}
@@ -11,11 +11,12 @@ use lib.ListN.{length, getD, set}
 use borrow.Author.Tests.{ltb-true, ltb-false, lt-ltb, le-ltb}
 use Rattle.lists.proofs.Tests.{and-true, and-unit, and-assoc}
 use Rattle.vectors.specs.Bits.{bit}
+use Rattle.vectors.specs.Bounds.{maxRows}
 use Rattle.vectors.proofs.Bits.Sets.{bit-or}
 use Rattle.rows.specs.Care.{Care}
 use Rattle.rows.specs.Fit.{inside, put}
 use Rattle.rows.specs.Answer.{columnIn, rowIn}
-use Rattle.rows.specs.Inner.Chains.{nextIn, chain, chainOf, Rises, topFrom, topOf}
+use Rattle.rows.specs.Inner.Chains.{nextIn, chainIn, chain, chainOf, Rises, topFrom, topOf}
 use Rattle.rows.specs.Inner.Taken.{bitIn, shutRow}
 use Rattle.rows.proofs.Chains.Steps.{chain-end, chain-step}
 use Rattle.rows.proofs.Taken.Words.{ones-bit}
@@ -139,11 +140,16 @@ module _ (cells d t : ℕ) (m : List Care) (p : 0 < length m) (e : t ≡ topOf m
   pub inside-no : cells ≤ t + d → inside cells d m ≡ false
   inside-no l = inside-top cells d m p ∙ rw (← e) (le-ltb (t + d) cells l)
 
--- a row inside some cells is inside more
-pub inside-wide : (cells most d : ℕ) (m : List Care) → cells ≤ most → inside cells d m ≡ true → inside most d m ≡ true
-unfolding inside
-inside-wide cells most d [] l h = refl
-inside-wide cells most d (c ∷ m) l h =
-    let q = and-true (ltb (c .column + d) cells) (inside cells d m) h in
-    let b : c .column + d < most = omega (arith, ltb-true (c .column + d) cells (q .0)) in
-    rw (lt-ltb (c .column + d) most b) (inside-wide cells most d m l (q .1))
+-- each column is below the number of rows
+top-low-in : (f : ℕ) (ws : List ℕ) (j t : ℕ) → t < maxRows → topFrom t (chainIn f ws j) < maxRows
+unfolding topFrom chainIn
+top-low-in zero ws j t l = l
+top-low-in (suc f) ws j t l = go (ltb j (length ws)) refl (λ u. top-low-in f ws (nextIn (getD ws j 0)) u)
+  where
+    go : (b : Bool) → ltb j (length ws) ≡ b → ((u : ℕ) → u < maxRows → topFrom u (chainIn f ws (nextIn (getD ws j 0))) < maxRows) → topFrom t (chainIn (suc f) ws j) < maxRows
+    go true q i = rw (q, chainIn) (i (max t (columnIn (getD ws j 0))) (omega arith))
+    go false q i = rw (q, chainIn) l
+
+pub top-low : (ws : List ℕ) (j t : ℕ) → t ≡ topOf (chain ws j) → t < maxRows
+unfolding chain
+top-low ws j t e = rw e (top-low-in (length ws) ws j 0 (omega arith))

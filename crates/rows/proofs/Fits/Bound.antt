@@ -61,6 +61,6 @@ module _ (g : List ℕ) (m : List Care) where
     where
       go : (r : Fit) → firstFit g m ≡ r → (d : ℕ) × (firstFit g m ≡ At d) × (d ≤ length m * filled g)
       go (At d) e = (d, e, first-le d e)
-      go (None t) e =
-          let b = blocked g m (suc (length m * filled g)) (λ x l. (inside-less (length g) (length m * filled g) x m (omega arith) h, fit-none g m t e .never x)) in
+      go (None t n) e =
+          let b = blocked g m (suc (length m * filled g)) (λ x l. (inside-less (length g) (length m * filled g) x m (omega arith) h, fit-none g m t n e .0 .never x)) in
           absurd (omega arith)

@@ -11,7 +11,7 @@ use lib.ListN.{length}
 use borrow.Author.Tests.{ltb-true, lt-ltb, le-ltb}
 use Rattle.lists.proofs.Tests.{and-true, le-or-lt}
 use Rattle.rows.specs.Care.{Care}
-use Rattle.rows.specs.Fit.{cellOf, inside, clear, fitsAt, fitFrom, firstFit}
+use Rattle.rows.specs.Fit.{cellOf, inside, clear, fitsAt, needed, fitFrom, firstFit}
 use Rattle.rows.specs.declared.room.Fit.{Fit}
 use Rattle.rows.specs.declared.room.Fit.the-variants.{At, None}
 
@@ -61,7 +61,7 @@ fits-is g d m t h e = rw (h, e)
 -- ---- the steps of the search
 
 module _ (g : List ℕ) (m : List Care) (f d : ℕ) where
-  pub step-out : inside (length g) d m ≡ false → fitFrom (suc f) d g m ≡ None d
+  pub step-out : inside (length g) d m ≡ false → fitFrom (suc f) d g m ≡ None d (needed g m)
   unfolding fitFrom
   step-out h = rw (h, fitFrom)
 
@@ -88,7 +88,7 @@ pub record NoneFits (g : List ℕ) (m : List Care) (t : ℕ) : Type 0 where
 
 abbrev Answer : List ℕ → List Care → Fit → Type 0
 Answer g m (At d) = FirstAt g m d
-Answer g m (None t) = NoneFits g m t
+Answer g m (None t n) = NoneFits g m t × (n ≡ needed g m)
 
 module _ (g : List ℕ) (c : Care) (cs : List Care) where
   abbrev m : List Care
@@ -116,11 +116,11 @@ module _ (g : List ℕ) (c : Care) (cs : List Care) where
 
   answer : (f d : ℕ) → length g < d + f → Tried d → Answer g m (fitFrom f d g m)
   unfolding fitFrom
-  answer zero d l tried = tried-none d tried (inside-end (length g) d c cs (omega arith))
+  answer zero d l tried = (tried-none d tried (inside-end (length g) d c cs (omega arith)), refl)
   answer (suc f) d l tried = go (inside (length g) d m) refl (clear g d m) refl (answer f (suc d) (omega arith))
     where
       go : (a : Bool) → inside (length g) d m ≡ a → (b : Bool) → clear g d m ≡ b → (Tried (suc d) → Answer g m (fitFrom f (suc d) g m)) → Answer g m (fitFrom (suc f) d g m)
-      go false h b k i = rw (step-out g m f d h) (tried-none d tried h)
+      go false h b k i = rw (step-out g m f d h) (tried-none d tried h, refl)
       go true h true k i =
           rw (step-here g m f d h k)
           (record { fits = fits-is g d m true h k; before = λ e l. fits-is g e m false (tried e l .0) (tried e l .1) })
@@ -150,10 +150,10 @@ fit-inside g m d h = fits-in g d m (fit-at g m d h .fits) .0
 pub fit-low : (g : List ℕ) (m : List Care) (d : ℕ) → 0 < length m → firstFit g m ≡ At d → d < length g
 fit-low g m d l h = inside-low (length g) d m l (fit-inside g m d h)
 
--- where none is found none fits, and those tried are the ones that keep every column inside
-pub fit-none : (g : List ℕ) (m : List Care) (t : ℕ) → firstFit g m ≡ None t → NoneFits g m t
-fit-none g [] t h = let z : _≡_ {A = ℕ} 0 1 = cc (first-empty g) in absurd (omega arith)
-fit-none g (c ∷ cs) t h = rw h at (answer-first g c cs)
+-- where none is found none fits, those tried are the ones that keep every column inside, and so many cells would do
+pub fit-none : (g : List ℕ) (m : List Care) (t n : ℕ) → firstFit g m ≡ None t n → NoneFits g m t × (n ≡ needed g m)
+fit-none g [] t n h = let z : _≡_ {A = ℕ} 0 1 = cc (first-empty g) in absurd (omega arith)
+fit-none g (c ∷ cs) t n h = rw h at (answer-first g c cs)
 
 -- ---- the search finds what is so
 
@@ -161,7 +161,7 @@ clash : (g : List ℕ) (e : ℕ) (m : List Care) → fitsAt g e m ≡ true → f
 clash g e m p q = true≢false (sym p ∙ q)
 
 first-same : (g : List ℕ) (m : List Care) (r : Fit) → Answer g m r → (d : ℕ) → FirstAt g m d → r ≡ At d
-first-same g m (None t) a d f = absurd (clash g d m (f .fits) (a .never d))
+first-same g m (None t n) a d f = absurd (clash g d m (f .fits) (a .0 .never d))
 first-same g m (At e) a d f = go (le-or-lt d e) (le-or-lt e d)
   where
     go : (d ≤ e) ⊎ (e < d) → (e ≤ d) ⊎ (d < e) → At e ≡ At d
@@ -174,16 +174,16 @@ pub fit-is : (g : List ℕ) (m : List Care) (d : ℕ) → 0 < length m → First
 fit-is g [] d p f = absurd (omega arith)
 fit-is g (c ∷ cs) d p f = first-same g (c ∷ cs) (firstFit g (c ∷ cs)) (answer-first g c cs) d f
 
-none-same : (g : List ℕ) (m : List Care) (r : Fit) → Answer g m r → (t : ℕ) → NoneFits g m t → r ≡ None t
+none-same : (g : List ℕ) (m : List Care) (r : Fit) → Answer g m r → (t : ℕ) → NoneFits g m t → r ≡ None t (needed g m)
 none-same g m (At e) a t f = absurd (clash g e m (a .fits) (f .never e))
-none-same g m (None u) a t f = go (le-or-lt t u) (le-or-lt u t)
+none-same g m (None u n) a t f = go (le-or-lt t u) (le-or-lt u t)
   where
-    go : (t ≤ u) ⊎ (u < t) → (u ≤ t) ⊎ (t < u) → None u ≡ None t
-    go (inr l) k = absurd (true≢false (sym (f .within u l) ∙ a .beyond u (omega arith)))
-    go (inl l) (inr k) = absurd (true≢false (sym (a .within t k) ∙ f .beyond t (omega arith)))
-    go (inl l) (inl k) = let q : u ≡ t = omega arith in rw q
+    go : (t ≤ u) ⊎ (u < t) → (u ≤ t) ⊎ (t < u) → None u n ≡ None t (needed g m)
+    go (inr l) k = absurd (true≢false (sym (f .within u l) ∙ a .0 .beyond u (omega arith)))
+    go (inl l) (inr k) = absurd (true≢false (sym (a .0 .within t k) ∙ f .beyond t (omega arith)))
+    go (inl l) (inl k) = let q : u ≡ t = omega arith in rw (q, a .1)
 
 -- none that fits
-pub fit-none-is : (g : List ℕ) (m : List Care) (t : ℕ) → 0 < length m → NoneFits g m t → firstFit g m ≡ None t
+pub fit-none-is : (g : List ℕ) (m : List Care) (t : ℕ) → 0 < length m → NoneFits g m t → firstFit g m ≡ None t (needed g m)
 fit-none-is g [] t p f = absurd (omega arith)
 fit-none-is g (c ∷ cs) t p f = none-same g (c ∷ cs) (firstFit g (c ∷ cs)) (answer-first g c cs) t f

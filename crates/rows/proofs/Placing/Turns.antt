@@ -45,7 +45,7 @@ module _ (cs : List Care) (s : State) (r : ℕ) (e : next cs s .row ≡ r) (l : 
 
 -- the turn of the row r, whose first fit is a
 abbrev step : ℕ → List Care → State → ℕ → Fit → Placing
-step f cs s r a = elim a [ At d ↦ placeIn f cs (placeRow cs s r d) | None tried ↦ record { end = NoFit r tried; state = s } ]
+step f cs s r a = elim a [ At d ↦ placeIn f cs (placeRow cs s r d) | None tried cells ↦ record { end = NoFit r tried cells; state = s } ]
 
 place-step : (f : ℕ) (cs : List Care) (s : State) → 0 < next cs s .weight → placeIn (suc f) cs s ≡ step f cs s (next cs s .row) (firstFit (s .g) (inRow (next cs s .row) cs))
 unfolding placeIn
@@ -62,8 +62,8 @@ module _ (f : ℕ) (cs : List Care) (s : State) where
     place-row = place-step f cs s l ∙ ap (λ (q : ℕ). step f cs s q (firstFit (s .g) (inRow q cs))) e
 
     -- the row has no displacement
-    pub place-stuck : (tried : ℕ) → firstFit (s .g) (inRow r cs) ≡ None tried → placeIn (suc f) cs s ≡ record { end = NoFit r tried; state = s }
-    place-stuck tried q = place-row ∙ ap (step f cs s r) q
+    pub place-stuck : (tried cells : ℕ) → firstFit (s .g) (inRow r cs) ≡ None tried cells → placeIn (suc f) cs s ≡ record { end = NoFit r tried cells; state = s }
+    place-stuck tried cells q = place-row ∙ ap (step f cs s r) q
 
     -- the row is placed
     pub place-more : (d : ℕ) → firstFit (s .g) (inRow r cs) ≡ At d → placeIn (suc f) cs s ≡ placeIn f cs (placeRow cs s r d)
@@ -73,7 +73,7 @@ module _ (f : ℕ) (cs : List Care) (s : State) where
 
 -- a property that every turn keeps holds at the end
 module _ (cs : List Care) (Q : State → Type 0) (turn : (s : State) (r d : ℕ) → Next cs s r → firstFit (s .g) (inRow r cs) ≡ At d → Q s → Q (placeRow cs s r d)) where
-  at-end-in : (f : ℕ) (s : State) → Q s → Q (placeIn f cs s .state)
+  pub at-end-in : (f : ℕ) (s : State) → Q s → Q (placeIn f cs s .state)
   unfolding placeIn
   at-end-in zero s q = q
   at-end-in (suc f) s q = go (eq-zero-or-pos (next cs s .weight)) (firstFit (s .g) (inRow r cs)) refl (λ d. at-end-in f (placeRow cs s r d))
@@ -84,7 +84,7 @@ module _ (cs : List Care) (Q : State → Type 0) (turn : (s : State) (r d : ℕ)
       go : (next cs s .weight ≡ 0) ⊎ (0 < next cs s .weight) → (a : Fit) → firstFit (s .g) (inRow r cs) ≡ a
           → ((d : ℕ) → Q (placeRow cs s r d) → Q (placeIn f cs (placeRow cs s r d) .state)) → Q (placeIn (suc f) cs s .state)
       go (inl z) a k i = rw (place-none f cs s z) q
-      go (inr l) (None t) k i = rw (place-stuck f cs s r refl l t k) q
+      go (inr l) (None t n) k i = rw (place-stuck f cs s r refl l t n k) q
       go (inr l) (At d) k i = rw (place-more f cs s r refl l d k) (i d (turn s r d (is-next cs s r refl l) k q))
 
   pub at-end : (h g : List ℕ) → Q (record { h = h; g = g; tries = 0; order = [] }) → Q (place cs h g .state)
@@ -98,28 +98,28 @@ cells-length cs h g = at-end cs (λ s. length (s .g) ≡ length g) (λ s r d n f
 -- what the end says: no row is left, or the row in its turn has no displacement
 pub record Ended (cs : List Care) (P : Placing) : Type 0 where
   pub none-left : P .end ≡ All → (i : ℕ) → i < length (P .state .h) → openWeight cs (P .state .order) i ≡ 0
-  pub no-fit : (r tried : ℕ) → P .end ≡ NoFit r tried → Next cs (P .state) r × (firstFit (P .state .g) (inRow r cs) ≡ None tried)
+  pub no-fit : (r tried cells : ℕ) → P .end ≡ NoFit r tried cells → Next cs (P .state) r × (firstFit (P .state .g) (inRow r cs) ≡ None tried cells)
   pub not-unfit : P .end ≡ Unfit → ⊥
 
 -- the two ends differ
-all-no-fit : {r t : ℕ} → _≡_ {A = End} All (NoFit r t) → ⊥
-all-no-fit {r} {t} e = let z : _≡_ {A = ℕ} 0 1 = cc in omega arith
+pub all-no-fit : {r t n : ℕ} → _≡_ {A = End} All (NoFit r t n) → ⊥
+all-no-fit {r} {t} {n} e = let z : _≡_ {A = ℕ} 0 1 = cc in omega arith
 
 -- and no placing ends with the third
 all-unfit : _≡_ {A = End} All Unfit → ⊥
 all-unfit e = let z : _≡_ {A = ℕ} 0 1 = cc in omega arith
 
-no-fit-unfit : {r t : ℕ} → _≡_ {A = End} (NoFit r t) Unfit → ⊥
-no-fit-unfit {r} {t} e = let z : _≡_ {A = ℕ} 0 1 = cc in omega arith
+no-fit-unfit : {r t n : ℕ} → _≡_ {A = End} (NoFit r t n) Unfit → ⊥
+no-fit-unfit {r} {t} {n} e = let z : _≡_ {A = ℕ} 0 1 = cc in omega arith
 
 ended-all : (cs : List Care) (s : State) → ((i : ℕ) → i < length (s .h) → openWeight cs (s .order) i ≡ 0) → Ended cs (record { end = All; state = s })
-ended-all cs s z = record { none-left = λ e. z; no-fit = λ r t e. absurd (all-no-fit e); not-unfit = all-unfit }
+ended-all cs s z = record { none-left = λ e. z; no-fit = λ r t n e. absurd (all-no-fit e); not-unfit = all-unfit }
 
-ended-stuck : (cs : List Care) (s : State) (r t : ℕ) → Next cs s r → firstFit (s .g) (inRow r cs) ≡ None t → Ended cs (record { end = NoFit r t; state = s })
-ended-stuck cs s r t n k =
+ended-stuck : (cs : List Care) (s : State) (r t c : ℕ) → Next cs s r → firstFit (s .g) (inRow r cs) ≡ None t c → Ended cs (record { end = NoFit r t c; state = s })
+ended-stuck cs s r t c n k =
     record {
       none-left = λ e. absurd (all-no-fit (sym e));
-      no-fit = λ q u e. let a : r ≡ q = cc in let b : t ≡ u = cc in rw (← a, ← b) (n, k);
+      no-fit = λ q u v e. let a : r ≡ q = cc in let b : t ≡ u = cc in let z : c ≡ v = cc in rw (← a, ← b, ← z) (n, k);
       not-unfit = no-fit-unfit;
     }
 
@@ -135,7 +135,7 @@ ended-in (suc f) cs s m = go (eq-zero-or-pos (next cs s .weight)) (firstFit (s .
     go : (next cs s .weight ≡ 0) ⊎ (0 < next cs s .weight) → (a : Fit) → firstFit (s .g) (inRow r cs) ≡ a
         → ((d : ℕ) → countOf (openWeight cs (r ∷ s .order)) (length (set (s .h) r d)) ≤ f → Ended cs (placeIn f cs (placeRow cs s r d))) → Ended cs (placeIn (suc f) cs s)
     go (inl z) a k i = rw (place-none f cs s z) (ended-all cs s (λ j l. omega (arith, is-heaviest (openWeight cs (s .order)) (length (s .h)) .most j l)))
-    go (inr l) (None t) k i = rw (place-stuck f cs s r refl l t k) (ended-stuck cs s r t (is-next cs s r refl l) k)
+    go (inr l) (None t n) k i = rw (place-stuck f cs s r refl l t n k) (ended-stuck cs s r t n (is-next cs s r refl l) k)
     go (inr l) (At d) k i =
         let n = is-next cs s r refl l in
         rw (place-more f cs s r refl l d k) (i d (rw length-set (omega (arith, open-less cs (s .order) r (length (s .h)) (n .weighs) (n .row-in)))))

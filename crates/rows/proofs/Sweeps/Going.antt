@@ -29,15 +29,15 @@ use Rattle.rows.proofs.Sweeps.Back.{way-back}
 
 pub placed-at : (m : List Care) (row : ℕ) (h g : List ℕ) (d : ℕ) {g' : List ℕ} → firstFit g m ≡ At d → g' ≡ put g d m → RowPlaced m row h g (At d) (set h row d) g'
 placed-at m row h g d e q =
-    record { is = sym e; rows-are = λ u k. let a : d ≡ u = cc in rw a; cells-are = λ u k. let a : d ≡ u = cc in q ∙ rw a; kept = λ t k. absurd (at-none k) }
+    record { is = sym e; rows-are = λ u k. let a : d ≡ u = cc in rw a; cells-are = λ u k. let a : d ≡ u = cc in q ∙ rw a; kept = λ t n k. absurd (at-none k) }
   where
-    at-none : {t : ℕ} → _≡_ {A = Fit} (At d) (None t) → ⊥
-    at-none {t} k = let z : _≡_ {A = ℕ} 0 1 = cc in omega arith
+    at-none : {t n : ℕ} → _≡_ {A = Fit} (At d) (None t n) → ⊥
+    at-none {t} {n} k = let z : _≡_ {A = ℕ} 0 1 = cc in omega arith
 
-pub placed-none : (m : List Care) (row : ℕ) (h g : List ℕ) (t : ℕ) → firstFit g m ≡ None t → RowPlaced m row h g (None t) h g
-placed-none m row h g t e = record { is = sym e; rows-are = λ u k. absurd (none-at k); cells-are = λ u k. absurd (none-at k); kept = λ u k. (refl, refl) }
+pub placed-none : (m : List Care) (row : ℕ) (h g : List ℕ) (t n : ℕ) → firstFit g m ≡ None t n → RowPlaced m row h g (None t n) h g
+placed-none m row h g t n e = record { is = sym e; rows-are = λ u k. absurd (none-at k); cells-are = λ u k. absurd (none-at k); kept = λ u v k. (refl, refl) }
   where
-    none-at : {u : ℕ} → _≡_ {A = Fit} (None t) (At u) → ⊥
+    none-at : {u : ℕ} → _≡_ {A = Fit} (None t n) (At u) → ⊥
     none-at {u} k = let z : _≡_ {A = ℕ} 0 1 = cc in omega arith
 
 -- ---- the loop's state: a sweep for the level, at the row i
@@ -79,11 +79,11 @@ going-start owner ws h g m =
       room = omega (arith, count-all (openWeight cs []) (length {A = ℕ} (replicate (length h) 0)), n);
     }
 
--- the row i has no displacement after t tried: the way back, and what is answered then
-pub record Stuck (owner : ℕ) (ws : List ℕ) (n : ℕ) (g₀ h g : List ℕ) (tries i t : ℕ) : Type 0 where
+-- the row i has no displacement after t tried, and needs so many cells: the way back, and what is answered then
+pub record Stuck (owner : ℕ) (ws : List ℕ) (n : ℕ) (g₀ h g : List ℕ) (tries i t needs : ℕ) : Type 0 where
   pub within : Members.All (Within h (length g)) (caresIn ws)
   pub ends : {h' g' : List ℕ} → h' ≡ replicate (length h) 0 → g' ≡ undone h (caresIn ws) g
-      → left (record { end = NoFit i t; tries = tries }) h' g' ≡ settled (caresOf owner ws) n g₀
+      → left (record { end = NoFit i t needs; tries = tries }) h' g' ≡ settled (caresOf owner ws) n g₀
 
 -- what is known of a row i of the level, marked at first: its tries fit, and it is placed or has no displacement
 pub record AtLevel (owner : ℕ) (ws : List ℕ) (n : ℕ) (g₀ h g : List ℕ) (tries level below i first : ℕ) : Type 0 where
@@ -92,7 +92,7 @@ pub record AtLevel (owner : ℕ) (ws : List ℕ) (n : ℕ) (g₀ h g : List ℕ)
   pub low : {f : Fit} {h' g' : List ℕ} → RowPlaced (chainOf owner ws first) i h g f h' g' → (d : ℕ) → f ≡ At d → d < length g
   pub more : {f : Fit} {h' g' : List ℕ} → RowPlaced (chainOf owner ws first) i h g f h' g' → (d : ℕ) → f ≡ At d → length g ≤ maxCells
       → Going owner ws n g₀ h' g' (tries + (d + 1)) level below (i + 1)
-  pub stuck : {f : Fit} {h' g' : List ℕ} → RowPlaced (chainOf owner ws first) i h g f h' g' → (t : ℕ) → f ≡ None t → Stuck owner ws n g₀ h' g' tries i t
+  pub stuck : {f : Fit} {h' g' : List ℕ} → RowPlaced (chainOf owner ws first) i h g f h' g' → (t needs : ℕ) → f ≡ None t needs → Stuck owner ws n g₀ h' g' tries i t needs
 
 module _ (owner : ℕ) (ws : List ℕ) (rises : Rises 0 ws) (weighs : Weighs 0 ws) (n : ℕ) (g₀ h g : List ℕ) (tries level below i : ℕ)
     (go : Going owner ws n g₀ h g tries level below i) where
@@ -173,12 +173,12 @@ module _ (owner : ℕ) (ws : List ℕ) (rises : Rises 0 ws) (weighs : Weighs 0 w
         answer = rw (go .cells, ← going-marked .is) (sym (placed .is))
 
         -- there is no displacement
-        going-stuck : (t : ℕ) → f ≡ None t → Stuck owner ws n g₀ h' g' tries i t
+        going-stuck : (t needs : ℕ) → f ≡ None t needs → Stuck owner ws n g₀ h' g' tries i t needs
         unfolding settled settle
-        going-stuck t q =
-            let e = sweep-stuck (caresOf owner ws) (plan owner ws n g₀) (go .state) level below i (go .sweep) inside p at-level t (answer ∙ q) in
+        going-stuck t needs q =
+            let e = sweep-stuck (caresOf owner ws) (plan owner ws n g₀) (go .state) level below i (go .sweep) inside p at-level t needs (answer ∙ q) in
             let b = way-back owner ws n g₀ rows h g (go .state) (ap (λ (x : Placing). x .state) e) (go .all-rows) (go .states) (go .cells) in
-            let a = placed .kept t q in
+            let a = placed .kept t needs q in
             rw (a .0, a .1)
             (record {
               within = b .within;
@@ -216,5 +216,5 @@ module _ (owner : ℕ) (ws : List ℕ) (rises : Rises 0 ws) (weighs : Weighs 0 w
             fits = going-room;
             low = λ {f} {h'} {g'} r d q. going-low f h' g' r d q;
             more = λ {f} {h'} {g'} r d q. going-more f h' g' r d q;
-            stuck = λ {f} {h'} {g'} r t q. going-stuck f h' g' r t q;
+            stuck = λ {f} {h'} {g'} r t needs q. going-stuck f h' g' r t needs q;
           }

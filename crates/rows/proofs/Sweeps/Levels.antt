@@ -114,8 +114,8 @@ module _ (cs : List Care) (P : Placing) (s : State) (level below : ℕ) where
       some = omega (arith, fewer, w .enough)
 
       -- a row of the level has no displacement
-      pub sweep-stuck : (tried : ℕ) → firstFit (s .g) (inRow i cs) ≡ None tried → P ≡ record { end = NoFit i tried; state = s }
-      sweep-stuck tried q = sym (w .same) ∙ ap (λ (f : ℕ). placeIn f cs s) some ∙ place-stuck (w .left - 1) cs s i (turn .0) (turn .1) tried q
+      pub sweep-stuck : (tried cells : ℕ) → firstFit (s .g) (inRow i cs) ≡ None tried cells → P ≡ record { end = NoFit i tried cells; state = s }
+      sweep-stuck tried cells q = sym (w .same) ∙ ap (λ (f : ℕ). placeIn f cs s) some ∙ place-stuck (w .left - 1) cs s i (turn .0) (turn .1) tried cells q
 
       -- a row of the level is placed
       pub sweep-more : (d : ℕ) → firstFit (s .g) (inRow i cs) ≡ At d → Sweep cs P (placeRow cs s i d) level below (i + 1)

@@ -16,7 +16,7 @@ use Rattle.vectors.specs.Bits.{bit}
 use Rattle.vectors.specs.Bounds.{maxCells}
 use Rattle.rows.specs.Care.{Care}
 use Rattle.rows.specs.Fit.{cellOf, isFree, inside, clear}
-use Rattle.rows.specs.Inner.Taken.{takenWords, bitIn, shutBit, Taken, shutRow}
+use Rattle.rows.specs.Inner.Taken.{takenCells, takenWords, bitIn, shutBit, Taken, shutRow}
 use Rattle.rows.proofs.Taken.Words.{window-low, window-high, set-here, set-there}
 
 -- ---- a window
@@ -56,16 +56,16 @@ shut-false : (b : Bool) → shutBit b ≡ 1 → b ≡ false
 shut-false true e = absurd (omega arith)
 shut-false false e = refl
 
-module _ (g taken : List ℕ) (bits : Taken g taken) (few : length g ≤ maxCells) (d t : ℕ) (t< : t < 64) where
-  row-is : (m : List Care) → inside (length g) d m ≡ true → shutRow taken (d + t) m ≡ shutBit (clear g (d + t) m)
+module _ (g taken : List ℕ) (bits : Taken g taken) (d t : ℕ) (t< : t < 64) where
+  row-is : (m : List Care) → inside takenCells d m ≡ true → shutRow taken (d + t) m ≡ shutBit (clear g (d + t) m)
   unfolding shutRow inside clear
   row-is [] h = refl
   row-is (c ∷ m) h =
-      let p = and-true (ltb (cellOf c d) (length g)) (inside (length g) d m) h in
-      let l : cellOf c d < length g = ltb-true (cellOf c d) (length g) (p .0) in
+      let p = and-true (ltb (cellOf c d) takenCells) (inside takenCells d m) h in
+      let l : cellOf c d < takenCells = ltb-true (cellOf c d) takenCells (p .0) in
       ap₂ max (bits .bits (cellOf c (d + t)) (omega arith)) (row-is m (p .1)) ∙ both (isFree g (cellOf c (d + t))) (clear g (d + t) m)
 
-  module _ (m : List Care) (h : inside (length g) d m ≡ true) (x : ℕ) (e : bit x t ≡ shutRow taken (d + t) m) where
+  module _ (m : List Care) (h : inside takenCells d m ≡ true) (x : ℕ) (e : bit x t ≡ shutRow taken (d + t) m) where
     pub row-open : bit x t ≡ 0 → clear g (d + t) m ≡ true
     row-open z = shut-true (clear g (d + t) m) (sym (row-is m h) ∙ sym e ∙ z)
 

@@ -25,12 +25,12 @@ link-requires : tie.Need-link-requires
 link-requires c κs = let f = fits (c .before .before) in (f .packed, (f .some, f .few))
 
 take-cells-requires : tie.Need-take-cells-requires
-take-cells-requires c κs = fits (c .before .before .before .before .before .before .before .before) .cells-few
+take-cells-requires c κs = (fits (c .before .before .before .before .before .before .before .before .before) .cells-few, refl)
 
 place-rows-requires : tie.Need-place-rows-requires
 place-rows-requires c κs =
-    let l = c .before .before .before .before .before .before .before .before .before .before .link in
-    let f = fits (c .before .before .before .before .before .before .before .before .before .before .before .before .before) in
+    let l = c .before .before .before .before .before .before .before .before .before .before .before .link in
+    let f = fits (c .before .before .before .before .before .before .before .before .before .before .before .before .before .before) in
     let a = l .kept .0 in
     let k = l .kept .1 .0 in (
       l .ensures .rises,
@@ -48,8 +48,8 @@ place-rows-requires c κs =
 
 returns-2 : tie.Need-returns-2
 returns-2 c =
-    let l = c .before .before .before .before .before .before .before .before .before .before .before .before .before .before .before .before .before .before .before .link in
-    let e = c .before .before .before .before .before .before .before .before .before .before .before .before .before .before .before .before .before .before .before .before .before .before in
+    let l = c .before .before .before .before .before .before .before .before .before .before .before .before .before .before .before .before .before .before .before .before .link in
+    let e = c .before .before .before .before .before .before .before .before .before .before .before .before .before .before .before .before .before .before .before .before .before .before .before in
     let a = e .before .before .before .before .before .before .args in (
       c .before .before .before .before .before .before .before .before .place-rows .ensures ∙ ap₂ (λ (cs : List Care) (n : ℕ). settled (map (owned (a .owner)) cs) n (a .g .now)) (l .ensures .cares) (l .kept .1 .0) ∙ sym (placed-fit _ _ _ _ (fit e)),
       c .before .before .unlink .ensures ∙ l .ensures .back,

@@ -98,12 +98,16 @@ topFrom t (c ∷ cs) = topFrom (max t (c .column)) cs
 abbrev pub topOf : List Care → ℕ
 topOf m = topFrom 0 m
 
+-- the first fit of a row with the largest column t, d being the smallest displacement at which its cells are free, past the cells too
+unfoldable pub fitAt : ℕ → ℕ → ℕ → Fit
+fitAt t d cells = elim (ltb (t + d) cells) [ true ↦ At d | false ↦ None (cells - t) (t + d + 1) ]
+
 -- the row with the vectors m placed at its first fit f; where it has none, nothing is changed
 pub record RowPlaced (m : List Care) (row : ℕ) (h g : List ℕ) (f : Fit) (h' g' : List ℕ) : Type 0 where
   pub is : f ≡ firstFit g m
   pub rows-are : (d : ℕ) → f ≡ At d → h' ≡ set h row d
   pub cells-are : (d : ℕ) → f ≡ At d → g' ≡ put g d m
-  pub kept : (t : ℕ) → f ≡ None t → (h' ≡ h) × (g' ≡ g)
+  pub kept : (t n : ℕ) → f ≡ None t n → (h' ≡ h) × (g' ≡ g)
 
 -- ---- the way back
 

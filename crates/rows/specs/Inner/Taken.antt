@@ -5,13 +5,17 @@ use mathlib.Core.Bool.{Bool, true, false}
 use mathlib.Core.List.{List, [], _∷_}
 use lib.ListN.{length, getD}
 use Rattle.vectors.specs.Bits.{bit}
-use Rattle.vectors.specs.Bounds.{maxCells}
+use Rattle.vectors.specs.Bounds.{maxCells, maxRows}
 use Rattle.rows.specs.Care.{Care}
 use Rattle.rows.specs.Fit.{cellOf, isFree}
 
--- words for 64 cells from each cell on
+-- at a displacement below the number of cells each column's cell is one of these
+abbrev pub takenCells : ℕ
+takenCells = maxCells + maxRows
+
+-- words for 64 cells from each of these on
 abbrev pub takenWords : ℕ
-takenWords = maxCells / 64 + 1
+takenWords = takenCells / 64 + 1
 
 -- the bit of the cell c
 abbrev pub bitIn : List ℕ → ℕ → ℕ

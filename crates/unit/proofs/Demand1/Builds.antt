@@ -24,7 +24,7 @@ use Rattle.unit.proofs.Demand1.Stuck.{no-fit-stuck, all-stuck, stuck-sa
 -- the refusal that an end of the placing makes
 abbrev stuckAt : End → Refusal
 stuckAt All = accepted
-stuckAt (NoFit row tried) = record { number = 13; place = row }
+stuckAt (NoFit row tried needed) = record { number = 13; place = row }
 stuckAt Unfit = record { number = 13; place = 0 }
 
 -- number and place of an outcome
@@ -43,13 +43,13 @@ module _ (n n1 : ℕ) (ks : List Kind) (cells : ℕ) (vs : List ℕ) (t : Tables
       go : (r .number ≡ 0) ⊎ (0 < r .number) → (e : End) → placingOf n1 ks cells vs .end ≡ e → Leaves n1 cells (length vs) t (outcome r n n1 ks cells vs t)
       go (inr l) e q =
           rw (outcome-refused r n n1 ks cells vs t (λ z. omega arith))
-          (record { blank = λ p. refl; untouched = λ p b. refl; zeros = λ z. absurd (omega arith) })
+          (record { blank = λ p. refl; none-needed = λ p. refl; untouched = λ p b. refl; zeros = λ z. absurd (omega arith) })
       go (inl z) All q =
           rw (outcome-passed r n n1 ks cells vs t z ∙ finish-all n n1 ks cells vs t q)
-          (record { blank = λ p. absurd (omega arith); untouched = λ p b. absurd (omega arith); zeros = λ e. absurd (omega arith) })
-      go (inl z) (NoFit row tried) q =
-          rw (outcome-passed r n n1 ks cells vs t z ∙ finish-stuck n n1 ks cells vs t row tried q)
-          (record { blank = λ p. refl; untouched = λ p b. absurd (omega arith); zeros = λ e. refl })
+          (record { blank = λ p. absurd (omega arith); none-needed = λ p. refl; untouched = λ p b. absurd (omega arith); zeros = λ e. absurd (omega arith) })
+      go (inl z) (NoFit row tried needed) q =
+          rw (outcome-passed r n n1 ks cells vs t z ∙ finish-stuck n n1 ks cells vs t row tried needed q)
+          (record { blank = λ p. refl; none-needed = λ p. absurd (p refl); untouched = λ p b. absurd (omega arith); zeros = λ e. refl })
       go (inl z) Unfit q = absurd (placing-ends n1 ks cells vs q)
 
   -- ---- the refusal given
@@ -62,8 +62,8 @@ module _ (n n1 : ℕ) (ks : List Kind) (cells : ℕ) (vs : List ℕ) (t : Tables
           ap refusalOf (outcome-refused r n n1 ks cells vs t (λ z. omega arith)) ∙ sym (or-given r last (λ z. omega arith))
       go (inl z) All q =
           ap refusalOf (outcome-passed r n n1 ks cells vs t z ∙ finish-all n n1 ks cells vs t q) ∙ sym (or-passed r last z ∙ ap stuckAt q)
-      go (inl z) (NoFit row tried) q =
-          ap refusalOf (outcome-passed r n n1 ks cells vs t z ∙ finish-stuck n n1 ks cells vs t row tried q) ∙ sym (or-passed r last z ∙ ap stuckAt q)
+      go (inl z) (NoFit row tried needed) q =
+          ap refusalOf (outcome-passed r n n1 ks cells vs t z ∙ finish-stuck n n1 ks cells vs t row tried needed q) ∙ sym (or-passed r last z ∙ ap stuckAt q)
       go (inl z) Unfit q = absurd (placing-ends n1 ks cells vs q)
 
   last-ladder : ladder (last ∷ []) ≡ last
@@ -72,7 +72,7 @@ module _ (n n1 : ℕ) (ks : List Kind) (cells : ℕ) (vs : List ℕ) (t : Tables
     where
       go : (e : End) → orElse (stuckAt e .number) (stuckAt e) accepted ≡ stuckAt e
       go All = refl
-      go (NoFit row tried) = refl
+      go (NoFit row tried needed) = refl
       go Unfit = refl
 
   -- the checks, and the placing after them
@@ -86,8 +86,8 @@ module _ (n n1 : ℕ) (ks : List Kind) (cells : ℕ) (vs : List ℕ) (t : Tables
     where
       go : (e : End) → placingOf n1 ks cells vs .end ≡ e → Answers last (record { number = 13; at = Stuck n1 ks cells vs })
       go All q = rw q (record { none = λ z. all-stuck n1 ks cells vs q; some = λ h. absurd (h refl); one = stuck-same n1 ks cells vs })
-      go (NoFit row tried) q =
-          rw q (record { none = λ z r a. absurd (omega arith); some = λ h. (refl, no-fit-stuck n1 ks cells vs row tried q); one = stuck-same n1 ks cells vs })
+      go (NoFit row tried needed) q =
+          rw q (record { none = λ z r a. absurd (omega arith); some = λ h. (refl, no-fit-stuck n1 ks cells vs row tried needed q); one = stuck-same n1 ks cells vs })
       go Unfit q = absurd (placing-ends n1 ks cells vs q)
 
   -- the checks answer for the causes, and so the outcome meets demand 1

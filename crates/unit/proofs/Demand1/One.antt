@@ -23,6 +23,11 @@ one-outcome f a b p q = p ∙ sym q
 
 -- ---- demand 1 fixes the outcome of a refused build, every word of it
 
+-- the outcome with another number of cells needed
+abbrev pub needing : ℕ → Outcome → Outcome
+needing needed o =
+    record { built = record { refusal = o .built .refusal; place = o .built .place; needed = needed; unit = o .built .unit }; tables = o .tables }
+
 module _ (causes : List Cause) (n1 cells k : ℕ) (t : Tables) (low : Below 14 causes) (o o′ : Outcome) (d : Demand1 causes n1 cells k t o) (d′ : Demand1 causes n1 cells k t o′)
     (refused : 0 < o .built .refusal) where
   number-same : o .built .refusal ≡ o′ .built .refusal
@@ -43,16 +48,16 @@ module _ (causes : List Cause) (n1 cells k : ℕ) (t : Tables) (low : Below 14 c
           let z : o .built .refusal ≡ 13 = omega (arith, gives-below 14 causes (omega arith) low (o .built .refusal) (o .built .place) (d .refusal)) in
           d .leaves .zeros z ∙ sym (d′ .leaves .zeros (sym number-same ∙ z))
 
-  outcome-same : o ≡ o′
+  outcome-same : o ≡ needing (o .built .needed) o′
   outcome-same = λ i.
       record {
-        built = record { refusal = number-same i; place = place-same i; unit = (d .leaves .blank refused ∙ sym (d′ .leaves .blank refused′)) i };
+        built = record { refusal = number-same i; place = place-same i; needed = o .built .needed; unit = (d .leaves .blank refused ∙ sym (d′ .leaves .blank refused′)) i };
         tables = tables-same i;
       }
 
--- two builds that meet demand 1 refuse alike
+-- two builds that meet demand 1 refuse alike, but that demand does not say how many cells are needed beside 13
 pub chosen-refused-one : (build build′ : ChosenBuild) → Demand1Chosen build → Demand1Chosen build′ → (n degree cells : ℕ) (vs : List ℕ) (t : Tables)
-    → 0 < build n degree cells vs t .built .refusal → build n degree cells vs t ≡ build′ n degree cells vs t
+    → 0 < build n degree cells vs t .built .refusal → build n degree cells vs t ≡ needing (build n degree cells vs t .built .needed) (build′ n degree cells vs t)
 chosen-refused-one build build′ d d′ n degree cells vs t r =
     let ks : List Kind = chosenKinds n degree vs in
     let n1 : ℕ = rowsShare (length ks) in
@@ -61,7 +66,7 @@ chosen-refused-one build build′ d d′ n degree cells vs t r =
     (build n degree cells vs t) (build′ n degree cells vs t) (d n degree cells vs t) (d′ n degree cells vs t) r
 
 pub given-refused-one : (build build′ : GivenBuild) → Demand1Given build → Demand1Given build′ → (n : ℕ) (variables : List Variable) (p n1 cells : ℕ) (vs : List ℕ) (t : Tables)
-    → 0 < build n variables p n1 cells vs t .built .refusal → build n variables p n1 cells vs t ≡ build′ n variables p n1 cells vs t
+    → 0 < build n variables p n1 cells vs t .built .refusal → build n variables p n1 cells vs t ≡ needing (build n variables p n1 cells vs t .built .needed) (build′ n variables p n1 cells vs t)
 given-refused-one build build′ d d′ n variables p n1 cells vs t r =
     let ks : List Kind = kindsOf (take p variables) in
     outcome-same (givenCauses n p n1 ks cells vs t) n1 cells (length vs) t

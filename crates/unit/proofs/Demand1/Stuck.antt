@@ -178,13 +178,13 @@ module _ (cs : List Care) (h g : List ℕ) where
   reached : Reached (place cs h g .state)
   reached = at-end cs Reached (λ s r d n f a. reached-more s r d n (fit-least (s .g) (inRow r cs) d (fit-at (s .g) (inRow r cs) d f)) a) h g reached-start
 
-  place-stuck : (r tried : ℕ) → place cs h g .end ≡ NoFit r tried → (ts : List Turn) × StuckAfter cs (length h) g [] ts r
-  place-stuck r tried e =
-      let n = ended cs h g .no-fit r tried e in
+  place-stuck : (r tried needed : ℕ) → place cs h g .end ≡ NoFit r tried needed → (ts : List Turn) × StuckAfter cs (length h) g [] ts r
+  place-stuck r tried needed e =
+      let n = ended cs h g .no-fit r tried needed e in
       let s = place cs h g .state in (
         reached .turns,
         turns-stuck cs (length h) (reached .turns) g [] (s .g) (s .order) r (reached .lead) (turn-here s r reached (n .0))
-            (λ d. not-fits (s .g) d (inRow r cs) (fit-none (s .g) (inRow r cs) tried (n .1) .never d)),
+            (λ d. not-fits (s .g) d (inRow r cs) (fit-none (s .g) (inRow r cs) tried needed (n .1) .0 .never d)),
       )
 
   place-all : place cs h g .end ≡ All → (ts : List Turn) (r : ℕ) → StuckAfter cs (length h) g [] ts r → ⊥
@@ -202,10 +202,10 @@ module _ (n1 : ℕ) (ks : List Kind) (cells : ℕ) (vs : List ℕ) where
   rows-are : length (replicate {A = ℕ} (2 ^ n1) 0) ≡ 2 ^ n1
   rows-are = length-replicate (2 ^ n1) 0
 
-  pub no-fit-stuck : (r tried : ℕ) → placingOf n1 ks cells vs .end ≡ NoFit r tried → Stuck n1 ks cells vs r
+  pub no-fit-stuck : (r tried needed : ℕ) → placingOf n1 ks cells vs .end ≡ NoFit r tried needed → Stuck n1 ks cells vs r
   unfolding placingOf
-  no-fit-stuck r tried e =
-      let p = place-stuck cares (replicate (2 ^ n1) 0) (replicate cells 0) r tried e in
+  no-fit-stuck r tried needed e =
+      let p = place-stuck cares (replicate (2 ^ n1) 0) (replicate cells 0) r tried needed e in
       (p .0, rw rows-are at (p .1))
 
   pub all-stuck : placingOf n1 ks cells vs .end ≡ All → (r : ℕ) → Stuck n1 ks cells vs r → ⊥

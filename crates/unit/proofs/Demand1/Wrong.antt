@@ -50,7 +50,7 @@ leaves-word-fails d =
 abbrev pub sevenFirst : ChosenBuild
 sevenFirst n degree cells vs t =
     let o = buildChosen n degree cells vs t in
-    cond (eqb (o .built .refusal) 6 && ltb 0 (repeated vs)) (record { built = record { refusal = 7; place = repeated vs; unit = blankRecord }; tables = t }) o
+    cond (eqb (o .built .refusal) 6 && ltb 0 (repeated vs)) (record { built = record { refusal = 7; place = repeated vs; needed = 0; unit = blankRecord }; tables = t }) o
 
 -- the list 64, 64 with n = 6 has both causes, and 6 comes first
 pub seven-first-fails : Demand1Chosen sevenFirst → ⊥

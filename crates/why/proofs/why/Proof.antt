@@ -10,9 +10,9 @@ use lib.ListN.{take}
 use lib.Seq.{length-take-le}
 use Rattle.print.specs.Print.{fitted}
 use Rattle.answer.specs.Make.{Making}
-use Rattle.answer.proofs.Makes.{count-low, vectors-are}
+use Rattle.answer.proofs.Makes.{read-is, count-low, vectors-are}
 use Rattle.why.specs.Why.{faultText}
-use Rattle.why.proofs.Whys.{read-is, why-bad, said-good}
+use Rattle.why.proofs.Whys.{why-bad, said-good}
 use Rattle.why.proofs.why.Statement.{statement}
 use Rattle.why.proofs.why.Tie as tie
 

@@ -48,8 +48,8 @@ returns-2 c =
     let s = c .before .before .before .before .before .before .before .before .before .before .before .before .before .before .before .before .before .before .before .before .before .before in
     let a = c .before .before .before .before .before .before .before .before .before .before .before .before .before .before .place-all in
     let k = c .before .before .before .before .before .before .end .given in
-    let w = when-stuck (placingOf (s .args .chart .n1) (kindsBy (s .args .chart)) (length (s .args .g .now)) (s .args .vectors .now)) _ _ _ _ _ (a .ensures) (k .0 .0) (k .0 .1 .0) (k .1) in
-    end-stuck (s .args .chart .n) (s .args .chart .n1) (kindsBy (s .args .chart)) (s .args .vectors .now) (s .args .h .now) (s .args .g .now) (s .args .aux .now) (s .pre .0 .1) (s .pre .0 .0) _ _ _ _ (k .0 .0) (k .0 .1 .0) (w .end-is) (c .refused .ensures) (w .rows-are ∙ ap (λ (d : ℕ). replicate d 0) (sym (s .pre .0 .1))) (w .cells-are)
+    let w = when-stuck (placingOf (s .args .chart .n1) (kindsBy (s .args .chart)) (length (s .args .g .now)) (s .args .vectors .now)) _ _ _ _ _ (a .ensures) (k .0 .0) (k .0 .1 .0) (k .0 .1 .1 .0) (k .1) in
+    end-stuck (s .args .chart .n) (s .args .chart .n1) (kindsBy (s .args .chart)) (s .args .vectors .now) (s .args .h .now) (s .args .g .now) (s .args .aux .now) (s .pre .0 .1) (s .pre .0 .0) _ _ _ _ (k .0 .0) (k .0 .1 .0) (k .0 .1 .1 .0) (w .end-is) (c .refused .ensures) (w .rows-are ∙ ap (λ (d : ℕ). replicate d 0) (sym (s .pre .0 .1))) (w .cells-are)
     (c .before .before .before .clear64 .ensures ∙ ap (λ (d : ℕ). replicate d 0) (a .kept .1 .1 .1 .1 .0))
 
 returns-3 : tie.Need-returns-3

@@ -22,7 +22,7 @@ table s = lent (s .args .h .now) (s .args .g .now) (s .args .aux .now)
 returns : tie.Need-returns
 returns c =
     let s = c .before .before .before .before .before .before in
-    ap (λ (u : Record). after (record { refusal = 30; place = 0; unit = u }) (s .args .h .now) (s .args .g .now) (s .args .aux .now)) (c .blank .ensures)
+    ap (λ (u : Record). after (record { refusal = 30; place = 0; needed = 0; unit = u }) (s .args .h .now) (s .args .g .now) (s .args .aux .now)) (c .blank .ensures)
     ∙ keys-wide (s .args .degree) (s .args .cells) (map keyOf (s .args .keys .now)) (table s) (sym (c .before .before .all-in-widths .ensures) ∙ not-true _ (c .before .if1 .taken))
 
 -- no key has a field over its width

@@ -6,10 +6,9 @@ use mathlib.Core.Path.{_≡_, refl}
 use mathlib.Core.Bool.{true}
 use lib.ListN.{length}
 use Rattle.vectors.specs.Bits.{bit}
-use Rattle.vectors.specs.Bounds.{maxCells}
 use Rattle.rows.specs.Fit as fits
 use Rattle.rows.specs.Inner.Chains.{chain}
-use Rattle.rows.specs.Inner.Taken.{shutRow}
+use Rattle.rows.specs.Inner.Taken.{takenCells, shutRow}
 use Rattle.rows.proofs.Chains.Walks.{next-rises, inside-on, shut-start, shut-more, shut-all, shut-end}
 use Rattle.rows.proofs.room.shut.Statement.{statement}
 use Rattle.rows.proofs.room.shut.Tie as tie
@@ -17,14 +16,14 @@ use Rattle.rows.proofs.room.shut.Tie as tie
 abbrev Inv-loop : tie.InvT-loop
 Inv-loop aux taken first d closed₀ j₀ closed j =
     (0 < j)
-    × (fits.inside maxCells d (chain aux j) ≡ true)
+    × (fits.inside takenCells d (chain aux j) ≡ true)
     × ((t : ℕ) → t < 64 → max (bit closed t) (shutRow taken (d + t) (chain aux j)) ≡ shutRow taken (d + t) (chain aux first))
 
 abbrev μ-loop : tie.MeasureT-loop
 μ-loop aux taken first d closed₀ j₀ closed j = length aux - j
 
 -- the column's cell is one of the cells
-below : (c : tie.After-column Inv-loop μ-loop) → c .column .result + c .before .before .before .before .before .before .args .d < maxCells
+below : (c : tie.After-column Inv-loop μ-loop) → c .column .result + c .before .before .before .before .before .before .args .d < takenCells
 below c =
     let l = c .before .before .before in
     inside-on _ (l .before .before .before .pre .0) _ (l .loop .inv .0) (c .before .before .loop-test .taken) _ _ (c .column .ensures) refl _ _ (l .loop .inv .1) .0

@@ -1,7 +1,7 @@
 -- `rows::room::take_cells` meets its contract. Assumes nothing.
 use borrow.Author.Needs.{needs}
 use Prim.Native.Nat.{_-_}
-use mathlib.Core.Path.{refl}
+use native.Mathlib.Omega.{arith}
 use lib.ListN.{length, take}
 use Rattle.rows.specs.Inner.Taken.{Taken}
 use Rattle.rows.proofs.Taken.Bits.{taken-none, taken-shut, taken-free, taken-all}
@@ -15,10 +15,22 @@ abbrev μ-loop : tie.MeasureT-loop
 μ-loop g taken₀ i₀ taken i = length g - i
 
 loop-holds : tie.Need-loop-holds Inv-loop μ-loop
-loop-holds c = taken-none (c .args .g .now) _ refl
+loop-holds c = taken-none (c .args .g .now) _ (c .pre .1)
+
+mul-taken : tie.Need-mul-taken Inv-loop μ-loop
+mul-taken c = omega (arith, c .before .before .loop-test .taken, c .before .before .before .loop .inv .size, c .before .before .before .before .pre .0)
+
+element-copy-out-taken : tie.Need-element-copy-out-taken Inv-loop μ-loop
+element-copy-out-taken c = omega (arith, c .before .before .loop-test .taken, c .before .before .before .loop .inv .size, c .before .before .before .before .pre .0)
+
+mul-taken-2 : tie.Need-mul-taken-2 Inv-loop μ-loop
+mul-taken-2 c = omega (arith, c .before .before .before .loop-test .taken, c .before .before .before .before .loop .inv .size, c .before .before .before .before .before .pre .0)
+
+element-write-taken : tie.Need-element-write-taken Inv-loop μ-loop
+element-write-taken c = omega (arith, c .before .before .before .loop-test .taken, c .before .before .before .before .loop .inv .size, c .before .before .before .before .before .pre .0)
 
 loop-again : tie.Need-loop-again Inv-loop μ-loop
-loop-again c = let l = c .before .before .before in taken-shut _ _ _ (l .loop .inv) (c .before .before .loop-test .taken) (l .before .pre) (c .if1 .taken)
+loop-again c = let l = c .before .before .before .before in taken-shut _ _ _ (l .loop .inv) (c .before .before .before .loop-test .taken) (l .before .pre .0) (c .before .if1 .taken)
 
 loop-again-2 : tie.Need-loop-again-2 Inv-loop μ-loop
 loop-again-2 c = let l = c .before .before .before in taken-free (l .before .args .g .now) _ (l .loop .i) (l .loop .inv) (c .if1 .left)
@@ -36,11 +48,11 @@ take-cells-spec =
     (λ c. search needs)
     (λ c. search needs)
     (λ c. search needs)
+    mul-taken
+    element-copy-out-taken
     (λ c. search needs)
-    (λ c. search needs)
-    (λ c. search needs)
-    (λ c. search needs)
-    (λ c. search needs)
+    mul-taken-2
+    element-write-taken
     (λ c. search needs)
     loop-again
     (λ c. search needs)

@@ -36,7 +36,7 @@ returns-2 : tie.Need-returns-2
 returns-2 c =
     let f = c .before .before .before in
     let e = sym (f .first-fit .ensures) ∙ c .before .fit2 .given .1 in
-    (placed-none _ _ _ _ _ (owned-fit _ _ _ ∙ e), start f .pre .1 .1)
+    (placed-none _ _ _ _ _ _ (owned-fit _ _ _ ∙ e), start f .pre .1 .1)
 
 pub place-row-spec : {M : Type 1} → statement M
 place-row-spec =

@@ -92,7 +92,7 @@ loop-again c =
 undo-requires : tie.Need-undo-requires Inv-loop μ-loop
 undo-requires c κs =
     let r = c .before .before .before .before .before .before .before .before .before in
-    at-level (level-row r) .stuck (r .place-row .ensures .0) _ (c .before .before .before .fit2 .given .1) .within
+    at-level (level-row r) .stuck (r .place-row .ensures .0) _ _ (c .before .before .before .fit2 .given .1) .within
 
 same-length : tie.Need-same-length Inv-loop μ-loop
 same-length c = let r = c .before .before .before .before .before .before .before .before .before .before .before .before .before .before .before .before in omega (arith, c .before .before .clear16 .kept .0, r .place-row .kept .1 .0, met (level-row r) .loop .inv .1)
@@ -105,7 +105,7 @@ same-length-2 c =
 returns : tie.Need-returns Inv-loop μ-loop
 returns c =
     let r = c .before .before .before .before .before .before .before .before .before .before .before .before .before .before .before .before in
-    at-level (level-row r) .stuck (r .place-row .ensures .0) _ (c .before .before .before .before .before .before .before .before .before .before .fit2 .given .1) .ends (c .before .before .clear16 .ensures) (c .before .before .before .before .before .before .undo .ensures)
+    at-level (level-row r) .stuck (r .place-row .ensures .0) _ _ (c .before .before .before .before .before .before .before .before .before .before .fit2 .given .1) .ends (c .before .before .clear16 .ensures) (c .before .before .before .before .before .before .undo .ensures)
 
 loop-less-2 : tie.Need-loop-less-2 Inv-loop μ-loop
 loop-less-2 c = omega (arith, c .before .before .before .before .before .if1 .taken)

@@ -1,0 +1,211 @@
+-- Builds with other numbers of cells: more cells refuse nothing that fewer accept, and `needed` is the least that places the row. Assumes nothing.
+use Prim.Native.Nat.{ℕ, _+_, _^_, _<_}
+use native.Mathlib.Nat.{eq-zero-or-pos}
+use native.Mathlib.Omega.{arith}
+use mathlib.Core.Path.{_≡_, refl, sym, ap, _∙_}
+use mathlib.Core.Bool.{true, false, not, true≢false}
+use mathlib.Core.List.{List, [], _∷_, _++_, map}
+use mathlib.Core.Logic.{_⊎_, inl, inr, ⊎-elim}
+use lib.Dec.{ltb}
+use lib.ListN.{length, take, drop}
+use lib.Seq.{take-at}
+use Rattle.lists.specs.First.{repeated}
+use Rattle.lists.specs.Members.{All}
+use Rattle.lists.proofs.Tests.{le-or-lt}
+use Rattle.vectors.specs.Bounds.{maxVariables, outside, tooMany}
+use Rattle.vectors.specs.Variable.{kindsOf, numberOf, firstFaulty}
+use Rattle.vectors.specs.declared.Kind.{Kind}
+use Rattle.vectors.specs.declared.Variable.{Variable}
+use Rattle.span.specs.Span.{firstDependent}
+use Rattle.choice.specs.Choice.{apart}
+use Rattle.rows.specs.Place.{Placing, place}
+use Rattle.rows.specs.Needed.{places}
+use Rattle.rows.specs.declared.End.{End}
+use Rattle.rows.specs.declared.End.the-variants as ends
+use Rattle.rows.specs.declared.End.the-variants.{NoFit, Unfit}
+use Rattle.rows.proofs.Placing.Wider.{least}
+use Rattle.record.specs.Record.{recordOf}
+use Rattle.record.specs.Tables.{Tables, over}
+use Rattle.build.specs.declared.Refusal.{Refusal}
+use Rattle.build.specs.Refusals.{givenChecks, check2Chosen, check2Given, check11, check12}
+use Rattle.build.specs.Build.{rowsShare, Outcome, placingOf, outcome, chosenKinds, chosenRefusal, buildChosen, givenRefusal, buildGiven}
+use Rattle.build.specs.Cells.{Builds, chosenBuilds, givenBuilds, Room, withCells, Accepts, Enough, Wider, used, LeastCells}
+use Rattle.build.proofs.Refusing.Ladder.{pass, outcome-refused, outcome-passed}
+use Rattle.build.proofs.Holding.Passed.{Passed, chosen-passed, given-passed}
+use Rattle.build.proofs.Holding.Ends.{placing-cells, placing-ends, finish-all, finish-stuck, outcome-accepted}
+use Rattle.build.proofs.Holding.Built.{care-held}
+use Rattle.build.proofs.Cells.Checks.{Early, if-early, at-early, list-early, list-room, some-cells}
+use Rattle.build.proofs.Cells.Placings.{placing-wider, placing-short, placing-within, placing-used}
+
+-- ---- the outcome
+
+-- refused by 13: past refusals 1 to 12, and the row has no displacement
+record Ended13 (r : Refusal) (P : Placing) (o : Outcome) : Type 0 where
+  passed : r .number ≡ 0
+  tried : ℕ
+  is : P .end ≡ NoFit (o .built .place) tried (o .built .needed)
+
+module _ (n n1 : ℕ) (ks : List Kind) (vs : List ℕ) (refusal : ℕ → Tables → Refusal) (early : (cells : ℕ) (t : Tables) → Early (refusal cells t))
+    (room : (cells m : ℕ) (t : Tables) (g : List ℕ) → 0 < m → Room m g → refusal cells t .number ≡ 0 → refusal m (withCells t g) .number ≡ 0)
+    (some : (cells : ℕ) (t : Tables) → refusal cells t .number ≡ 0 → 0 < cells) where
+  abbrev B : Builds
+  B =
+      record {
+        refusal = refusal;
+        placing = λ cells. placingOf n1 ks cells vs;
+        outcome = λ cells t. outcome (refusal cells t) n n1 ks cells vs t;
+      }
+
+  ended-13 : (cells : ℕ) (t : Tables) → B .outcome cells t .built .refusal ≡ 13 → Ended13 (refusal cells t) (B .placing cells) (B .outcome cells t)
+  ended-13 cells t h = go (eq-zero-or-pos (refusal cells t .number)) (placingOf n1 ks cells vs .end) refl
+    where
+      go : (refusal cells t .number ≡ 0) ⊎ (0 < refusal cells t .number) → (e : End) → placingOf n1 ks cells vs .end ≡ e
+          → Ended13 (refusal cells t) (B .placing cells) (B .outcome cells t)
+      go (inr l) e q =
+          absurd (omega (arith, ap (λ (o : Outcome). o .built .refusal) (outcome-refused (refusal cells t) n n1 ks cells vs t (λ z. omega arith)), early cells t))
+      go (inl z) ends.All q =
+          absurd (omega (arith, ap (λ (o : Outcome). o .built .refusal) (outcome-passed (refusal cells t) n n1 ks cells vs t z ∙ finish-all n n1 ks cells vs t q)))
+      go (inl z) (NoFit row tried needed) q =
+          rw (outcome-passed (refusal cells t) n n1 ks cells vs t z ∙ finish-stuck n n1 ks cells vs t row tried needed q)
+          (record { passed = z; tried = tried; is = q })
+      go (inl z) Unfit q = absurd (placing-ends n1 ks cells vs q)
+
+  outcome-enough : (cells : ℕ) (t : Tables) → B .outcome cells t .built .refusal ≡ 13
+      → Enough B cells t (B .outcome cells t .built .place) (B .outcome cells t .built .needed)
+  outcome-enough cells t h =
+      let e = ended-13 cells t h in
+      let s = placing-short n1 ks vs cells _ (e .tried) _ (e .is) in
+      let a = s .above in
+      record {
+        above = a;
+        enough = λ m g l r. (room cells m t g (omega arith) r (e .passed), s .enough m l);
+        earlier = s .earlier;
+        fewer = λ m t' l p. true≢false (sym (p .1) ∙ s .fewer m l);
+        refused = λ m t' l z. s .refused m l (outcome-accepted n n1 ks m vs t' (refusal m t') z .placed);
+      }
+
+  outcome-wider : (cells : ℕ) (t : Tables) → Accepts B cells t → Wider B cells t
+  unfolding recordOf
+  outcome-wider cells t h m g l r =
+      let a = outcome-accepted n n1 ks cells vs t (refusal cells t) h in
+      let w = placing-wider n1 ks vs cells m l (a .placed) in
+      let p = some cells t (a .passed) in
+      let z = room cells m t g (omega arith) r (a .passed) in
+      let o = outcome-passed (refusal m (withCells t g)) n n1 ks m vs (withCells t g) z ∙ finish-all n n1 ks m vs (withCells t g) (w .0) in
+      rw (a .is, o)
+      (record {
+        accepted = refl;
+        rows = ap (λ (x : List ℕ). over x (t .h)) (w .1 .rows);
+        words = refl;
+        tries = w .1 .tries;
+      })
+
+  -- accepted with so many cells: accepted with those up to the last that is taken, and with no fewer
+  outcome-least : (second : Refusal) (cells : ℕ) (t : Tables) → (refusal cells t .number ≡ 0 → Passed n n1 second ks cells vs t) → Accepts B cells t
+      → LeastCells B t (used (take cells (B .outcome cells t .tables .g)))
+  outcome-least second cells t pass h =
+      let a = outcome-accepted n n1 ks cells vs t (refusal cells t) h in
+      let G : List ℕ = placingOf n1 ks cells vs .state .g in
+      let f : take cells (over G (t .g)) ≡ G = take-at G (drop (length G) (t .g)) cells (placing-cells n1 ks cells vs) in
+      rw (a .is, f)
+      (record {
+        enough = λ m g k l r.
+            ⊎-elim
+            (λ q. outcome-wider cells t h m g q r .accepted)
+            (λ q.
+            let e = placing-within n1 ks vs cells m (omega arith) (a .placed) (λ c i. care-held n n1 second ks cells vs t (pass (a .passed)) (a .placed) c i) l in
+            let z = room cells m t g k r (a .passed) in
+            ap (λ (o : Outcome). o .built .refusal) (outcome-passed (refusal m (withCells t g)) n n1 ks m vs (withCells t g) z ∙ finish-all n n1 ks m vs (withCells t g) e))
+            (le-or-lt cells m);
+        fewer = λ m t' l z.
+            let b = outcome-accepted n n1 ks m vs t' (refusal m t') z in
+            omega (arith, placing-used n1 ks vs cells m (b .placed));
+      })
+
+-- ---- the builds
+
+module _ (n degree : ℕ) (vs : List ℕ) where
+  abbrev ks : List Kind
+  ks = chosenKinds n degree vs
+
+  abbrev n1 : ℕ
+  n1 = rowsShare (length ks)
+
+  abbrev r : ℕ → Tables → Refusal
+  r cells t = chosenRefusal n degree ks cells vs t
+
+  abbrev rest : Tables → List Refusal
+  rest t = check11 ks vs ∷ check12 n1 (t .h) ∷ []
+
+  pub chosen-early : (cells : ℕ) (t : Tables) → Early (r cells t)
+  unfolding chosenRefusal
+  chosen-early cells t =
+      list-early n (check2Chosen degree) cells vs (length (t .g)) (length (t .aux)) (rest t) (if-early 2 (outside 1 2 degree) (omega arith))
+      (if-early 11 (not (apart vs ks)) (omega arith), (if-early 12 (ltb (length (t .h)) (2 ^ n1)) (omega arith), tt))
+
+  chosen-room : (cells m : ℕ) (t : Tables) (g : List ℕ) → 0 < m → Room m g → r cells t .number ≡ 0 → r m (withCells t g) .number ≡ 0
+  unfolding chosenRefusal
+  chosen-room cells m t g p q = list-room n (check2Chosen degree) cells m vs (length (t .g)) (length g) (length (t .aux)) (rest t) p (q .0) (q .1)
+
+  chosen-some : (cells : ℕ) (t : Tables) → r cells t .number ≡ 0 → 0 < cells
+  unfolding chosenRefusal
+  chosen-some cells t = some-cells n (check2Chosen degree) cells vs (length (t .g)) (length (t .aux)) (rest t)
+
+  -- refused by 13: the row has its place with as many cells as are needed, and with no fewer
+  pub chosen-enough : (cells : ℕ) (t : Tables) → buildChosen n degree cells vs t .built .refusal ≡ 13
+      → Enough (chosenBuilds n degree vs) cells t (buildChosen n degree cells vs t .built .place) (buildChosen n degree cells vs t .built .needed)
+  unfolding buildChosen
+  chosen-enough cells t = outcome-enough n n1 ks vs r chosen-early chosen-room chosen-some cells t
+
+  -- accepted: accepted with more cells, and the same but for G
+  pub chosen-wider : (cells : ℕ) (t : Tables) → buildChosen n degree cells vs t .built .refusal ≡ 0 → Wider (chosenBuilds n degree vs) cells t
+  unfolding buildChosen
+  chosen-wider cells t = outcome-wider n n1 ks vs r chosen-early chosen-room chosen-some cells t
+
+  -- accepted: accepted with the cells up to the last that is taken, and with no fewer
+  pub chosen-least : (cells : ℕ) (t : Tables) → buildChosen n degree cells vs t .built .refusal ≡ 0
+      → LeastCells (chosenBuilds n degree vs) t (used (take cells (buildChosen n degree cells vs t .tables .g)))
+  unfolding buildChosen
+  chosen-least cells t = outcome-least n n1 ks vs r chosen-early chosen-room chosen-some (check2Chosen degree) cells t (chosen-passed n degree cells vs t)
+
+module _ (n : ℕ) (variables : List Variable) (p n1 : ℕ) (vs : List ℕ) where
+  abbrev gs : List Kind
+  gs = kindsOf (take p variables)
+
+  abbrev s : ℕ → Tables → Refusal
+  s cells t = givenRefusal n p n1 gs cells vs t
+
+  abbrev more : Tables → List Refusal
+  more t = givenChecks n gs vs ++ (check12 n1 (t .h) ∷ [])
+
+  given-early : (cells : ℕ) (t : Tables) → Early (s cells t)
+  unfolding givenRefusal
+  given-early cells t =
+      list-early n (check2Given p n1) cells vs (length (t .g)) (length (t .aux)) (more t) (if-early 2 (tooMany p n1) (omega arith)) (
+        at-early 8 (firstFaulty n gs) (omega arith),
+        (at-early 9 (firstDependent gs) (omega arith), (at-early 10 (repeated (map (numberOf gs) vs)) (omega arith), (if-early 12 (ltb (length (t .h)) (2 ^ n1)) (omega arith), tt))),
+      )
+
+  given-room : (cells m : ℕ) (t : Tables) (g : List ℕ) → 0 < m → Room m g → s cells t .number ≡ 0 → s m (withCells t g) .number ≡ 0
+  unfolding givenRefusal
+  given-room cells m t g k q = list-room n (check2Given p n1) cells m vs (length (t .g)) (length g) (length (t .aux)) (more t) k (q .0) (q .1)
+
+  given-some : (cells : ℕ) (t : Tables) → s cells t .number ≡ 0 → 0 < cells
+  unfolding givenRefusal
+  given-some cells t = some-cells n (check2Given p n1) cells vs (length (t .g)) (length (t .aux)) (more t)
+
+  -- the same of the given build
+  pub given-enough : (cells : ℕ) (t : Tables) → buildGiven n variables p n1 cells vs t .built .refusal ≡ 13
+      → Enough (givenBuilds n variables p n1 vs) cells t (buildGiven n variables p n1 cells vs t .built .place) (buildGiven n variables p n1 cells vs t .built .needed)
+  unfolding buildGiven
+  given-enough cells t = outcome-enough n n1 gs vs s given-early given-room given-some cells t
+
+  pub given-wider : (cells : ℕ) (t : Tables) → buildGiven n variables p n1 cells vs t .built .refusal ≡ 0 → Wider (givenBuilds n variables p n1 vs) cells t
+  unfolding buildGiven
+  given-wider cells t = outcome-wider n n1 gs vs s given-early given-room given-some cells t
+
+  pub given-least : (cells : ℕ) (t : Tables) → length variables ≡ maxVariables → buildGiven n variables p n1 cells vs t .built .refusal ≡ 0
+      → LeastCells (givenBuilds n variables p n1 vs) t (used (take cells (buildGiven n variables p n1 cells vs t .tables .g)))
+  unfolding buildGiven
+  given-least cells t places =
+      outcome-least n n1 gs vs s given-early given-room given-some (check2Given p n1) cells t (given-passed n variables p n1 cells vs t places)
