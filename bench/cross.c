@@ -7,6 +7,7 @@
 #include "draw.h"
 #include "expect.h"
 #include "files.h"
+#include "many.h"
 
 #include <inttypes.h>
 #include <stdio.h>
@@ -58,6 +59,7 @@ static void use_unit(struct trial *t, struct random *r)
     if (t->kind->use == EVERY_KEY && !t->damaged)
         lookup_every(t);
     lookup_some(t, r);
+    many_both(t, &counts, *r);
     recover_list(t, r);
     check_unwritten(t);
     if (write_both(t, &counts, r))

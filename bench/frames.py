@@ -11,6 +11,7 @@ LIMITS = {  # of a whole call, as include/igu.h says them
     "igu_read": 2 * 1024,
     "igu_recover": 2 * 1024,
     "igu_lookup": 2 * 1024,
+    "igu_lookup_many": 18 * 1024,
 }
 ENGINE_LIMITS = {  # the same, of the second archive
     "igu_profiles_build": 90 * 1024,

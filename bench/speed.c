@@ -4,6 +4,7 @@
 #include "random.h"
 #include "rivals.h"
 #include "speed_file.h"
+#include "speed_many.h"
 #include "speed_profiles.h"
 #include "timing.h"
 #include "twin.h"
@@ -241,6 +242,7 @@ int main(void)
     print_builds();
     print_lookup_times();
     print_lookup_ratios();
+    time_many();
     time_files();
     time_profiles();
     print_verdicts();

@@ -19,6 +19,10 @@ uint64_t twin_build_given(size_t n, size_t p, size_t n1, size_t L, const uint64_
 uint64_t twin_lookup(const uint64_t record[TWIN_RECORD_WORDS], const uint16_t *h, size_t h_len, const uint16_t *g, size_t g_len,
                      const uint64_t *aux, size_t aux_len, uint64_t x);
 
+uint64_t twin_lookup_many(const uint64_t record[TWIN_RECORD_WORDS], const uint16_t *h, size_t h_len, const uint16_t *g, size_t g_len,
+                          const uint64_t *aux, size_t aux_len, const uint64_t *keys, size_t count, uint16_t *indices,
+                          size_t indices_len);
+
 uint64_t twin_recover(const uint64_t record[TWIN_RECORD_WORDS], const uint16_t *h, size_t h_len, const uint16_t *g, size_t g_len,
                       const uint64_t *aux, size_t aux_len, size_t i, uint64_t vector[1]);
 

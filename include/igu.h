@@ -8,15 +8,15 @@
  * Memory. Every pointer is aligned and not null, also with length 0, and is good for as many elements as its length says (or 40, 24, 5
  * or 1, as the declaration says). Memory that a call writes overlaps no other memory of that call.
  *
- * Stack. A call needs at most this much of it: igu_profiles_build 90 KB, igu_build 80 KB, igu_build_given 20 KB, igu_write 3 KB,
- * igu_read, igu_recover, igu_lookup and igu_profile 2 KB; while rows are placed, a build has at most 4 KB in use, and
+ * Stack. A call needs at most this much of it: igu_profiles_build 90 KB, igu_build 80 KB, igu_build_given 20 KB, igu_lookup_many 18 KB,
+ * igu_write 3 KB, igu_read, igu_recover, igu_lookup and igu_profile 2 KB; while rows are placed, a build has at most 4 KB in use, and
  * igu_profiles_build 8 KB more for its keys. With less it can end the process, as igu_build does on a stack of 64 KB.
  * docs/FIGURES.md has what was measured.
  *
  * Threads. The functions keep nothing between calls. Calls may run in several threads at once, as long as no call writes memory that
  * another one is using: each build has a record and tables of its own; the other calls may share those of a build that has ended, each
- * recovery with its own place for the vector, each write with a file of its own. A read has a record and tables of its own, as a build
- * has. */
+ * recovery with its own place for the vector, each lookup of many keys with its own indices, each write with a file of its own. A read
+ * has a record and tables of its own, as a build has. */
 #ifndef IGU_H
 #define IGU_H
 
@@ -64,6 +64,14 @@ uint64_t igu_build_given(size_t n, size_t p, size_t n1, size_t L, const uint64_t
  * nothing. */
 uint64_t igu_lookup(const uint64_t record[IGU_RECORD_WORDS], const uint16_t *h, size_t h_len, const uint16_t *g, size_t g_len,
                     const uint64_t *aux, size_t aux_len, uint64_t x);
+
+/* Looks up count keys in one call, each as igu_lookup does, and writes indices[j], the index of keys[j] or 0 beside a refusal, for each j
+ * below count, and nothing else. Returns refusal + 256 * place of the first key that is refused, its place counted from 1; 0 where none is.
+ * Where indices_len is less than count: refusal 20, place 0, and nothing is written. The record and the tables are tested once, so that
+ * many keys take far less time than as many calls of igu_lookup. */
+uint64_t igu_lookup_many(const uint64_t record[IGU_RECORD_WORDS], const uint16_t *h, size_t h_len, const uint16_t *g, size_t g_len,
+                         const uint64_t *aux, size_t aux_len, const uint64_t *keys, size_t count, uint16_t *indices,
+                         size_t indices_len);
 
 /* Returns the refusal, and writes the vector with number i, or 0 beside a refusal. With record and tables as a build left them: vector
  * i of the list for i of 1 to k, refusal 15 for any other i. With any other record and tables as for igu_lookup, by docs/SCOPE.md, 10.

@@ -1,5 +1,5 @@
 -- What the calls of the boundary give, from what the calls of the unit give. Assumes nothing.
-use Prim.Native.Nat.{ℕ, _≤_, _<_}
+use Prim.Native.Nat.{ℕ, _%_, _^_, _≤_, _<_}
 use native.Mathlib.Omega.{arith}
 use mathlib.Core.Path.{_≡_, refl, sym, ap, ap₂, _∙_}
 use mathlib.Core.Bool.{Bool, true, false, cond}
@@ -10,6 +10,7 @@ use Rattle.build.specs.declared.Built.{Built}
 use Rattle.lookup.specs.declared.Found.{Found}
 use Rattle.recover.specs.declared.Recovered.{Recovered}
 use Rattle.record.specs.declared.Record.{Record}
+use Rattle.record.specs.Record.{blankRecord}
 use Rattle.record.specs.Tables.{Tables, lent}
 use Rattle.build.specs.Build.{Outcome, after, buildChosen, buildGiven}
 use Rattle.lookup.specs.Lookup.{notFound, lookupOf}
@@ -19,6 +20,10 @@ use Rattle.build.proofs.Places.{placeLimit}
 use Rattle.record.specs.Formed.{wellFormed}
 use Rattle.lookup.proofs.Indices.{found-index}
 use Rattle.lookup.proofs.Lookups.{lookup-unformed}
+use Rattle.many.specs.declared.Many.{Many}
+use Rattle.many.specs.Lookups as many
+use Rattle.many.specs.Lookups.{lookupMany}
+use Rattle.many.proofs.Keys.{many-same}
 use Rattle.file.specs.declared.Written.{Written}
 use Rattle.file.specs.Write as file
 use Rattle.file.specs.Write.{writeOf}
@@ -27,7 +32,7 @@ use Rattle.file.specs.Read.{Reading, readOf}
 use Rattle.load.specs.declared.Loaded.{Loaded}
 use Rattle.load.specs.Load as load
 use Rattle.bridge.specs.Flat.{variableAt, flatOf, variableWords, unitAt, allInRange, unreadable, unitSeen}
-use Rattle.bridge.specs.Calls.{answer, builtAnswer, left, leftBy, buildCall, givenCall, foundIn, recoveredIn, lookupCall, Filed, filed, filedBy, writeCall, readCall}
+use Rattle.bridge.specs.Calls.{answer, builtAnswer, left, leftBy, buildCall, givenCall, foundIn, recoveredIn, lookupCall, indexed, placeBits, manyCall, Filed, filed, filedBy, writeCall, readCall}
 
 -- ---- the builds
 
@@ -91,6 +96,15 @@ pub seen-read : (words : List ℕ) → allInRange (variableWords words) ≡ true
 unfolding unitSeen
 seen-read words e = rw e
 
+-- the blank record with another k
+abbrev keyed : Record → ℕ → Record
+keyed b k =
+    record { n = b .n; p = b .p; n1 = b .n1; k = k; cells = b .cells; kept = b .kept; tries = b .tries; excess = b .excess; variables = b .variables }
+
+pub seen-unread : (words : List ℕ) (b : Record) → allInRange (variableWords words) ≡ false → b ≡ blankRecord → keyed b (getD words 3 0) ≡ unitSeen words
+unfolding unitSeen
+seen-unread words b e f = rw e (ap (λ (b : Record). keyed b (getD words 3 0)) f)
+
 pub seen-keys : (words : List ℕ) → unitSeen words .k ≡ getD words 3 0
 unfolding unitSeen unitAt
 seen-keys words = go (allInRange (variableWords words))
@@ -101,6 +115,16 @@ seen-keys words = go (allInRange (variableWords words))
 
 pub index-fits : (words : List ℕ) (t : Tables) (x : ℕ) (f : Found) → f ≡ foundIn words t x → f .index < 65536
 index-fits words t x f e = omega (arith, found-index (unitSeen words) t x, ap (λ (f : Found). f .index) (e ∙ sym (seen-found words t x)))
+
+-- ---- many keys
+
+pub many-called : (words : List ℕ) (t : Tables) (keys old : List ℕ) (u : Record) (m : Many) (l : List ℕ) (a : ℕ) → u ≡ unitSeen words
+    → many.left m l ≡ lookupMany (lookupOf u t) keys old → a ≡ answer (m .refusal) (m .place % 2 ^ placeBits) → indexed a l ≡ manyCall words t keys old
+unfolding manyCall
+many-called words t keys old u m l a v e i =
+    ap (λ (b : ℕ). indexed b l) i
+    ∙ ap (λ (r : many.Left). indexed (answer (r .answer .refusal) (r .answer .place % 2 ^ placeBits)) (r .indices))
+    (e ∙ ap (λ (u : Record). lookupMany (lookupOf u t) keys old) v ∙ many-same (lookupOf (unitSeen words) t) (foundIn words t) (seen-found words t) keys old)
 
 -- ---- writing a file
 

@@ -5,3 +5,4 @@ pub mod Answers
 pub mod Carried
 pub mod Boundary
 pub mod Files
+pub mod Together

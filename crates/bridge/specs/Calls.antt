@@ -8,6 +8,7 @@ use Rattle.record.specs.Tables.{Tables}
 use Rattle.build.specs.Build.{Outcome, buildChosen, buildGiven}
 use Rattle.lookup.specs.Lookup.{notFound, lookupOf}
 use Rattle.recover.specs.Recover.{notRecovered, recoverOf}
+use Rattle.many.specs.Lookups.{lookupMany}
 use Rattle.file.specs.Write as file
 use Rattle.file.specs.Write.{writeOf}
 use Rattle.file.specs.Read.{readOf}
@@ -54,6 +55,24 @@ recoveredIn words t i = cond (allInRange (variableWords words)) (recoverOf (unit
 unfoldable pub lookupCall : List ℕ → Tables → ℕ → ℕ
 unfolding foundIn
 lookupCall words t x = let f = foundIn words t x in answer (f .refusal) (f .index)
+
+-- what looking up many keys leaves: its answer, and every word of the indices
+pub record Indexed : Type 0 where
+  pub answer : ℕ
+  pub indices : List ℕ
+
+abbrev pub indexed : ℕ → List ℕ → Indexed
+indexed r indices = record { answer = r; indices = indices }
+
+-- an answer has so many bits for a place: more than any memory has keys
+abbrev pub placeBits : ℕ
+placeBits = 56
+
+-- SCOPE 9.5: each key looked up as in a call for it alone
+unfoldable pub manyCall : List ℕ → Tables → List ℕ → List ℕ → Indexed
+unfolding foundIn lookupMany
+manyCall words t keys old =
+    let l = lookupMany (foundIn words t) keys old in indexed (answer (l .answer .refusal) (l .answer .place % 2 ^ placeBits)) (l .indices)
 
 -- what writing a file leaves: its answer, with the bytes written, and every byte of the target
 pub record Filed : Type 0 where

@@ -197,6 +197,20 @@ pub(crate) fn unit(words: &[u64; WORDS], variables: [Variable; MAX_VARIABLES]) -
     }
 }
 
+// The unit of any record: one with no input, which is refused as 14, where a word of the variables is out of range.
+pub(crate) fn seen(words: &[u64; WORDS]) -> Record
+    ensures { λ r. ⌜ r ≡ spec.unitSeen (now (words .entry)) ⌝ }
+{
+    if !readable(words) {
+        let mut none = record::blank();
+        none.k = words[3] as usize;
+        return none;
+    }
+    let all = &words[..];
+    let v = variables(&all[8..32]);
+    unit(words, v)
+}
+
 // A refusal and a number in one word.
 pub(crate) fn answer(refusal: u8, number: usize) -> u64
     requires { ⌜ number < 65536 ⌝ }

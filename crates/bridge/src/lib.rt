@@ -2,12 +2,15 @@
 ghost use mathlib.Core.Path.{_≡_};
 ghost use mathlib.Core.List.{_∷_, []};
 ghost use Rattle.record.specs.Tables.{lent};
-ghost use Rattle.bridge.specs.Calls.{left, buildCall, givenCall, foundIn, lookupCall, recoveredIn, filed, writeCall, readCall};
+ghost use Rattle.bridge.specs.Calls.{left, buildCall, givenCall, foundIn, lookupCall, indexed, manyCall, recoveredIn, filed, writeCall, readCall};
 use flat::WORDS;
 use unit::Found;
 use vectors::MAX_VARIABLES;
 
 pub mod flat;
+
+// So many places an answer can tell apart.
+const MAX_PLACES: u64 = 1 << 56;
 
 // The build that chooses its variables. The answer is the refusal, 256 times the place and 2^32 times the
 // cells needed.
@@ -79,6 +82,24 @@ pub extern "C" fn igu_lookup(words: &[u64; WORDS], h: &[u16], g: &[u16], aux: &[
 {
     let found = find(words, h, g, aux, x);
     flat::answer(found.refusal, found.index)
+}
+
+// The index of each key goes to indices. The answer is the refusal of the first key that is refused, and 256 times its number, for which it has 56 bits:
+// more than any memory has keys.
+#[no_mangle]
+pub extern "C" fn igu_lookup_many(
+    words: &[u64; WORDS],
+    h: &[u16],
+    g: &[u16],
+    aux: &[u64],
+    keys: &[u64],
+    indices: &mut [u16],
+) -> u64
+    ensures { λ r. ⌜ indexed r (now (indices .exit))
+        ≡ manyCall (now (words .entry)) (lent (now (h .entry)) (now (g .entry)) (now (aux .entry))) (now (keys .entry)) (now (indices .entry)) ⌝ }
+{
+    let found = many::lookup_many(flat::seen(words), h, g, aux, keys, indices);
+    found.refusal as u64 + 256 * (found.place as u64 % MAX_PLACES)
 }
 
 // The refusal; the registered vector with the number i goes to vector.

@@ -1,5 +1,5 @@
 -- What is printed for any keys fits 96 KiB. Assumes nothing.
-use Prim.Native.Nat.{ℕ, suc, _+_, _*_, _^_, _≤_, _<_}
+use Prim.Native.Nat.{ℕ, zero, suc, _+_, _*_, _^_, _≤_, _<_}
 use native.Mathlib.Omega.{arith}
 use mathlib.Core.Path.{_≡_, refl, ap}
 use mathlib.Core.Bool.{Bool, true, false, cond, _&&_}
@@ -14,14 +14,15 @@ use Rattle.record.specs.declared.Record.{Record}
 use Rattle.record.specs.Tables.{Tables}
 use Rattle.lookup.specs.Lookup.{lookupOf}
 use Rattle.lookup.proofs.Indices.{found-index, found-number}
+use Rattle.many.specs.declared.Many.{Many}
+use Rattle.many.specs.Lookups.{orElse, firstRefused}
 use Rattle.print.specs.Line.{newline, ends, beside}
 use Rattle.print.specs.Print.{maxBytes}
 use Rattle.print.proofs.Pages.Sizes.{refused-low}
 use Rattle.print.proofs.Pages.Lengths.{lineEnds, beside-low}
 use Rattle.find.specs.declared.keys.Key.{Key}
-use Rattle.find.specs.declared.Ended.{Ended}
 use Rattle.find.specs.Keys.{maxKeys, keyOf, keysFrom, keysIn, goodKeys, valuesIn}
-use Rattle.find.specs.Find.{firstRefused, indicesOf, findText}
+use Rattle.find.specs.Find.{indicesOf, findText}
 use Rattle.find.proofs.Lines.{good-few}
 use Rattle.find.proofs.Looks.{find-no, find-refused, find-all}
 
@@ -57,22 +58,21 @@ module _ (u : Record) (t : Tables) where
   indices-low [] = tt
   indices-low (x ∷ xs) = (omega (arith, found-index u t x), indices-low xs)
 
-  refused-few : (i : ℕ) (xs : List ℕ) → (firstRefused u t i xs .refusal ≤ 14) × (firstRefused u t i xs .place ≤ i + length xs)
-  unfolding firstRefused
+  refused-few : (i : ℕ) (xs : List ℕ) → (firstRefused (lookupOf u t) i xs .refusal ≤ 14) × (firstRefused (lookupOf u t) i xs .place ≤ i + length xs)
+  unfolding firstRefused orElse
   refused-few i [] = (omega arith, omega arith)
-  refused-few i (x ∷ xs) = go (eqb (lookupOf u t x .refusal) 0) refl (refused-few (suc i) xs)
+  refused-few i (x ∷ xs) = go (lookupOf u t x .refusal) (found-number u t x) (firstRefused (lookupOf u t) (suc i) xs) (refused-few (suc i) xs)
     where
-      go : (q : Bool) → eqb (lookupOf u t x .refusal) 0 ≡ q → (firstRefused u t (suc i) xs .refusal ≤ 14) × (firstRefused u t (suc i) xs .place ≤ suc i + length xs)
-          → (firstRefused u t i (x ∷ xs) .refusal ≤ 14) × (firstRefused u t i (x ∷ xs) .place ≤ i + suc (length xs))
-      go true q h = rw (q, firstRefused) (h .0, omega (arith, h .1))
-      go false q h = rw (q, firstRefused) (found-number u t x, omega arith)
+      go : (r : ℕ) → r ≤ 14 → (m : Many) → (m .refusal ≤ 14) × (m .place ≤ suc i + length xs) → (orElse r i m .refusal ≤ 14) × (orElse r i m .place ≤ i + suc (length xs))
+      go zero l m h = (h .0, omega (arith, h .1))
+      go (suc r) l m h = (l, omega arith)
 
   -- of every text
   pub find-fits : (text : List ℕ) → length (findText text u t) ≤ findSize
   find-fits text = go (goodKeys text) refl
     where
-      e : Ended
-      e = firstRefused u t 1 (valuesIn text)
+      e : Many
+      e = firstRefused (lookupOf u t) 1 (valuesIn text)
 
       few : goodKeys text ≡ true → length (valuesIn text) ≤ maxKeys
       few g = omega (arith, good-many text g, length-map (keysIn text) (λ (k : Key). k .value))

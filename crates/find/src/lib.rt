@@ -1,51 +1,59 @@
 // Keys found in a unit, printed: behind each key its number, 0 where it is not registered.
 ghost use mathlib.Core.Path.{_≡_};
+ghost use Prim.Native.Nat.{_≤_};
 ghost use lib.ListN.{length};
 ghost use Rattle.record.specs.Tables.{lent};
+ghost use Rattle.lookup.specs.Lookup.{lookupOf};
+ghost use Rattle.many.specs.Lookups.{firstRefused};
 ghost use Rattle.print.specs.Print.{printed, fitted};
 ghost use Rattle.find.specs.Keys.{maxKeys};
-ghost use Rattle.find.specs.Find.{firstRefused, indicesOf, findText};
+ghost use Rattle.find.specs.Find.{indicesOf, findText};
+use many::Many;
 use unit::Record;
 
 mod keys;
 
 pub use keys::line_length;
 
-// How a search ends: the first refusal, and the number of its key; 0 and 0 where none is refused.
-struct Ended {
-    refusal: u8,
-    place: usize,
-}
+// The keys of the longest call.
+const MAX_KEYS: usize = 1024;
 
-// Writes the index of each key, up to the first that is refused.
-fn look(unit: Record, h: &[u16], g: &[u16], aux: &[u64], keys: &[u64], indices: &mut [u64]) -> Ended
-    requires { ⌜ length (now keys) ≡ length (now indices) ⌝ }
-    ensures { λ r. ⌜ r ≡ firstRefused unit (lent (now (h .entry)) (now (g .entry)) (now (aux .entry))) 1 (now (keys .entry)) ⌝ }
-    ensures { λ r. ⌜ (r .refusal ≡ 0 → now (indices .exit) ≡ indicesOf unit (lent (now (h .entry)) (now (g .entry)) (now (aux .entry))) (now (keys .entry))) ⌝ }
-{
-    let mut i = 0;
-    while i < keys.len() {
-        let found = unit::lookup(unit, h, g, aux, keys[i]);
-        if found.refusal != 0 {
-            return Ended {
-                refusal: found.refusal,
-                place: i + 1,
-            };
-        }
-        indices[i] = found.index as u64;
-        i += 1;
-    }
-    Ended {
-        refusal: 0,
-        place: 0,
-    }
-}
-
-// A word for each key of the longest call.
-fn room() -> [u64; 1024]
+// A word for each key of the longest call, of 64 and of 16 bits.
+fn room() -> [u64; MAX_KEYS]
     ensures { λ r. ⌜ length r ≡ maxKeys ⌝ }
 {
-    [0; 1024]
+    [0; MAX_KEYS]
+}
+
+fn narrow_room() -> [u16; MAX_KEYS]
+    ensures { λ r. ⌜ length r ≡ maxKeys ⌝ }
+{
+    [0; MAX_KEYS]
+}
+
+// Each number in a word of 64 bits.
+fn widen(narrow: &[u16], words: &mut [u64])
+    requires { ⌜ length (now narrow) ≡ length (now words) ⌝ }
+    ensures { λ _. ⌜ now (words .exit) ≡ now (narrow .entry) ⌝ }
+{
+    let mut i = 0;
+    while i < narrow.len() {
+        words[i] = narrow[i] as u64;
+        i += 1;
+    }
+}
+
+// Writes the index of each key, and says the first refusal.
+fn look(unit: Record, h: &[u16], g: &[u16], aux: &[u64], keys: &[u64], indices: &mut [u64]) -> Many
+    requires { ⌜ (length (now keys) ≡ length (now indices)) × (length (now keys) ≤ maxKeys) ⌝ }
+    ensures { λ r. ⌜ r ≡ firstRefused (lookupOf unit (lent (now (h .entry)) (now (g .entry)) (now (aux .entry)))) 1 (now (keys .entry)) ⌝ }
+    ensures { λ _. ⌜ now (indices .exit) ≡ indicesOf unit (lent (now (h .entry)) (now (g .entry)) (now (aux .entry))) (now (keys .entry)) ⌝ }
+{
+    let mut found = narrow_room();
+    let count = keys.len();
+    let ended = many::lookup_many(unit, h, g, aux, keys, &mut found[..count]);
+    widen(&found[..count], indices);
+    ended
 }
 
 // Prints each key of a text with its number behind it, or the first refusal, or `input` where the text is no keys: answers how many bytes

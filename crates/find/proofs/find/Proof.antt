@@ -8,9 +8,11 @@ use borrow.Author.Tests.{not-true, not-false}
 use lib.ListN.{length, take, drop, length-append}
 use lib.Seq.{length-take-le}
 use Rattle.record.specs.Tables.{lent}
+use Rattle.lookup.specs.Lookup.{lookupOf}
+use Rattle.many.specs.Lookups.{firstRefused}
 use Rattle.print.specs.Print.{fitted}
 use Rattle.find.specs.Keys.{goodKeys, valuesIn}
-use Rattle.find.specs.Find.{firstRefused, indicesOf}
+use Rattle.find.specs.Find.{indicesOf}
 use Rattle.find.proofs.Looks.{find-no, find-refused, find-printed}
 use borrow.Author.Needs.{needs}
 use Rattle.find.proofs.find.Statement.{statement}
@@ -45,8 +47,8 @@ values : (c : tie.Else1) → take (c .before .before .before .read .result .coun
 values c = c .before .before .before .read .ensures .values (not-false _ (c .if1 .left))
 
 searched : (c : tie.After-look) → let a = c .before .before .before .before .before .before .before .before .before .before .before .before .before .before .before .args in
-    c .look .result ≡ firstRefused (a .unit) (lent (a .h .now) (a .g .now) (a .aux .now)) 1 (valuesIn (a .text .now))
-searched c = let a = c .before .before .before .before .before .before .before .before .before .before .before .before .before .before .before .args in c .look .ensures .0 ∙ ap (firstRefused (a .unit) (lent (a .h .now) (a .g .now) (a .aux .now)) 1) (values (c .before .before .before))
+    c .look .result ≡ firstRefused (lookupOf (a .unit) (lent (a .h .now) (a .g .now) (a .aux .now))) 1 (valuesIn (a .text .now))
+searched c = let a = c .before .before .before .before .before .before .before .before .before .before .before .before .before .before .before .args in c .look .ensures .0 ∙ ap (firstRefused (lookupOf (a .unit) (lent (a .h .now) (a .g .now) (a .aux .now))) 1) (values (c .before .before .before))
 
 returns : tie.Need-returns
 returns c =
@@ -68,7 +70,8 @@ slice-aggregate-look-2 : tie.Need-slice-aggregate-look-2
 slice-aggregate-look-2 c = sym (length-take-le _ _ (array-borrow-prefix-indices (c .before)))
 
 look-requires : tie.Need-look-requires
-look-requires c κs = sym (slice-aggregate-look (c .before)) ∙ slice-aggregate-look-2 c
+look-requires c κs =
+    (sym (slice-aggregate-look (c .before)) ∙ slice-aggregate-look-2 c, omega (arith, slice-aggregate-look (c .before), c .before .before .before .before .before .read .ensures .few))
 
 refused-requires : tie.Need-refused-requires
 refused-requires c κs = search needs
@@ -108,7 +111,7 @@ returns-3 c =
     let ix : List ℕ = l .look .last .1 .1 .1 .1 .1 .0 in
     c .before .before .beside .ensures
     ∙ find-printed (s .args .unit) t (s .args .text .now) (good (l .before .before .before)) _ (searched l) ix (drop n (c .before .before .before .before .before .before .before .before .before .before .before .before .before .before .before .before .room2 .result)) (s .args .out .now) n (c .before .before .before .before .before .if2 .left) (back l)
-    (l .look .ensures .1 (c .before .before .before .before .before .if2 .left) ∙ ap (indicesOf (s .args .unit) t) (values (l .before .before .before)))
+    (l .look .ensures .1 ∙ ap (indicesOf (s .args .unit) t) (values (l .before .before .before)))
 
 pub find-spec : {M : Type 1} → statement M
 find-spec =

@@ -1,78 +1,50 @@
 -- `find::look` meets its contract. Assumes nothing.
-use Prim.Native.Nat.{_-_}
 use native.Mathlib.Omega.{arith}
-use lib.ListN.{length}
-use Rattle.record.specs.Tables.{lent}
-use Rattle.find.proofs.Looks.{Looking, looking-none, looking-refused, looking-more, looking-end, looking-all}
+use mathlib.Core.Path.{_≡_, sym, _∙_}
+use lib.ListN.{length, drop, length-append}
+use lib.Seq.{length-take-le, take-at}
+use Rattle.find.proofs.Looks.{looked-answer, looked-indices}
 use borrow.Author.Needs.{needs}
 use Rattle.find.proofs.look.Statement.{statement}
 use Rattle.find.proofs.look.Tie as tie
 
-abbrev Inv-loop : tie.InvT-loop
-Inv-loop unit h g aux keys indices₀ i₀ indices i = Looking unit (lent h g aux) keys indices i
+array-borrow-prefix-found : tie.Need-array-borrow-prefix-found
+array-borrow-prefix-found c = search needs
 
-abbrev μ-loop : tie.MeasureT-loop
-μ-loop unit h g aux keys indices₀ i₀ indices i = length keys - i
+slice-aggregate-lookup-many : tie.Need-slice-aggregate-lookup-many
+slice-aggregate-lookup-many c = sym (length-take-le _ _ (array-borrow-prefix-found (c .before)))
 
-loop-holds : tie.Need-loop-holds Inv-loop μ-loop
-loop-holds c = looking-none _ _ _ _ (c .before .before .before .before .before .pre)
+-- as many indices as keys
+back : (c : tie.After-lookup-many) → length (c .lookup-many .last .1 .1 .1 .1 .1 .0) ≡ length (c .before .before .before .before .before .before .before .before .args .keys .now)
+back c = omega (arith, slice-aggregate-lookup-many (c .before))
 
-mul-lookup : tie.Need-mul-lookup Inv-loop μ-loop
-mul-lookup c = search needs
+array-share-prefix-found : tie.Need-array-share-prefix-found
+array-share-prefix-found c = omega (arith, back (c .before), length-append (c .before .lookup-many .last .1 .1 .1 .1 .1 .0) (drop (length (c .before .before .before .before .before .before .before .before .before .args .keys .now)) (c .before .before .before .narrow-room .result)))
 
-shared-slice-read-lookup : tie.Need-shared-slice-read-lookup Inv-loop μ-loop
-shared-slice-read-lookup c = search needs
+slice-aggregate-widen : tie.Need-slice-aggregate-widen
+slice-aggregate-widen c = sym (length-take-le _ _ (array-share-prefix-found (c .before)))
 
-lookup-requires : tie.Need-lookup-requires Inv-loop μ-loop
-lookup-requires c κs = search needs
+widen-requires : tie.Need-widen-requires
+widen-requires c κs = sym (slice-aggregate-widen (c .before)) ∙ c .before .before .before .before .before .before .before .before .before .before .before .pre .0
 
-add-t13 : tie.Need-add-t13 Inv-loop μ-loop
-add-t13 c = search needs
-
-same-length : tie.Need-same-length Inv-loop μ-loop
-same-length c = search needs
-
-returns : tie.Need-returns Inv-loop μ-loop
-returns c = (looking-refused _ _ _ _ _ (c .before .before .before .before .before .loop .inv) (c .before .before .before .before .loop-test .taken) _ (c .before .before .lookup .ensures) (c .if1 .taken), λ z. absurd (c .if1 .taken z))
-
-mul-indices : tie.Need-mul-indices Inv-loop μ-loop
-mul-indices c = search needs
-
-slice-write-indices : tie.Need-slice-write-indices Inv-loop μ-loop
-slice-write-indices c = search needs
-
-add-i : tie.Need-add-i Inv-loop μ-loop
-add-i c = search needs
-
-loop-less : tie.Need-loop-less Inv-loop μ-loop
-loop-less c = search needs
-
-loop-again : tie.Need-loop-again Inv-loop μ-loop
-loop-again c = looking-more _ _ _ _ _ (c .before .before .before .before .before .loop .inv) (c .before .before .before .before .loop-test .taken) _ (c .before .before .lookup .ensures) (c .if1 .left)
-
-same-length-2 : tie.Need-same-length-2 Inv-loop μ-loop
-same-length-2 c = search needs
-
-returns-2 : tie.Need-returns-2 Inv-loop μ-loop
-returns-2 c = (looking-end _ _ _ _ _ (c .before .loop .inv) (c .loop-test .left), λ _. looking-all _ _ _ _ _ (c .before .loop .inv) (c .loop-test .left))
+returns : tie.Need-returns
+returns c =
+    let l = c .before .before .before .before .before .before in
+    let m = l .lookup-many in (
+      looked-answer _ _ _ _ (m .last .1 .1 .1 .1 .1 .0) (m .result) (m .ensures) (slice-aggregate-lookup-many (l .before)),
+      c .before .before .widen .ensures ∙ take-at (m .last .1 .1 .1 .1 .1 .0) _ _ (back l) ∙ looked-indices _ _ _ _ (m .last .1 .1 .1 .1 .1 .0) (m .result) (m .ensures) (slice-aggregate-lookup-many (l .before)),
+    )
 
 pub look-spec : {M : Type 1} → statement M
 look-spec =
     tie.close
     (tie.spec
-    Inv-loop
-    μ-loop
-    loop-holds
-    mul-lookup
-    shared-slice-read-lookup
-    lookup-requires
-    add-t13
-    same-length
-    returns
-    mul-indices
-    slice-write-indices
-    add-i
-    loop-less
-    loop-again
-    same-length-2
-    returns-2)
+    (λ c κs. search needs)
+    array-borrow-prefix-found
+    slice-aggregate-lookup-many
+    (λ c κs. search needs)
+    array-share-prefix-found
+    slice-aggregate-widen
+    widen-requires
+    (λ c. search needs)
+    returns)

@@ -1,0 +1,85 @@
+-- The masks of an image's bits, the images of bytes in tables, and what is taken from a unit once for all keys.
+use Prim.Native.Nat.{ℕ, zero, suc, _+_, _-_, _*_, _/_, _%_, _^_, _≤_, _<_}
+use mathlib.Core.Path.{_≡_}
+use mathlib.Core.Bool.{true}
+use mathlib.Core.List.{List, [], _∷_, _++_}
+use lib.ListN.{length, getD, take, drop}
+use Rattle.vectors.specs.Bounds.{maxInputs, maxSide}
+use Rattle.vectors.specs.Masks.{masksOf, numberBy}
+use Rattle.record.specs.declared.Record.{Record}
+use Rattle.record.specs.Record.{kindsIn}
+use Rattle.record.specs.Tables.{Tables}
+use Rattle.record.specs.Formed.{wellFormed}
+use Rattle.lookup.specs.declared.Found.{Found}
+use Rattle.many.specs.declared.find.Frame.{Frame}
+use Rattle.many.specs.declared.find.Hit.{Hit}
+use Rattle.many.specs.Image.{imageOf}
+
+-- the bits of a mask, each as a mask of its own: d of them looked at, the lowest at place j
+unfoldable pub singles : ℕ → ℕ → ℕ → List ℕ
+singles zero j m = []
+singles (suc d) j m = elim (m % 2) [ zero ↦ singles d (suc j) (m / 2) | suc r ↦ 2 ^ j ∷ singles d (suc j) (m / 2) ]
+
+-- the masks of an image's bits, the lowest first: those of the column, of the row, and the kept inputs
+unfoldable pub imageMasks : Record → List ℕ
+unfolding singles
+imageMasks u = masksOf (drop (u .n1) (kindsIn u)) ++ masksOf (take (u .n1) (kindsIn u)) ++ singles maxInputs 0 (u .kept)
+
+-- ---- the values of a function in tables
+
+-- the bytes of a word, the bits of a byte and its values, and the words of all tables
+abbrev pub wordBytes : ℕ
+wordBytes = 8
+
+abbrev pub byteBits : ℕ
+byteBits = 8
+
+abbrev pub byteValues : ℕ
+byteValues = 256
+
+abbrev pub tableWords : ℕ
+tableWords = wordBytes * byteValues
+
+-- the values of f at so many single bits
+abbrev pub OnBits : ℕ → (ℕ → ℕ) → List ℕ → Type 0
+OnBits count f images = (b : ℕ) → b < count → getD images b 0 ≡ f (2 ^ b)
+
+-- the values of f at the numbers below a count
+abbrev pub Below : ℕ → (ℕ → ℕ) → List ℕ → Type 0
+Below count f table = (m : ℕ) → m < count → getD table m 0 ≡ f m
+
+-- so many tables: the values of f at each byte, the first byte in the lowest place
+abbrev pub Tabled : ℕ → (ℕ → ℕ) → List ℕ → Type 0
+Tabled count f tables = (t m : ℕ) → t < count → m < byteValues → getD tables (byteValues * t + m) 0 ≡ f (m * 2 ^ (byteBits * t))
+
+-- ---- what is taken from a unit once for all keys
+
+pub record FrameOf (u : Record) (f : Frame) : Type 0 where
+  pub kinds : length (kindsIn u) ≡ u .p
+  pub rows-in : u .n1 ≤ u .p
+  pub columns-few : u .p - u .n1 ≤ maxSide
+  pub last : f .last ≡ 2 ^ u .n - 1
+  pub shift : f .shift ≡ u .p - u .n1
+  pub columns : f .columns ≡ 2 ^ (u .p - u .n1) - 1
+  pub rows : f .rows ≡ 2 ^ u .n1 - 1
+  pub cells : f .cells ≡ u .cells
+  pub k : f .k ≡ u .k
+
+-- the tables of the unit are long enough for what a frame reads
+pub record Fits (f : Frame) (h g aux : ℕ) : Type 0 where
+  pub shift-low : f .shift ≤ maxSide
+  pub columns-low : f .columns < 2 ^ maxSide
+  pub rows-held : f .rows < h
+  pub cells-held : f .cells ≤ g
+  pub words-held : f .k < aux
+
+-- a unit that is well formed, with its tables of images
+pub record Opened (u : Record) (t : Tables) (f : Frame) (images : List ℕ) : Type 0 where
+  pub frame : FrameOf u f
+  pub formed : wellFormed u t ≡ true
+  pub tabled : Tabled wordBytes (numberBy (imageMasks u)) images
+  pub image : (x : ℕ) → x < 2 ^ maxInputs → numberBy (imageMasks u) x ≡ imageOf u x
+
+pub record HitIs (f : Found) (r : Hit) : Type 0 where
+  pub refusal : r .refusal ≡ f .refusal
+  pub index : r .index ≡ f .index

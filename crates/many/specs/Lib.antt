@@ -1,0 +1,4 @@
+pub mod Lookups
+pub mod Image
+pub mod Inner
+pub mod ManySamples

@@ -1,0 +1,75 @@
+// The images of bytes, in eight tables: one for each byte of a word.
+ghost use mathlib.Core.Path.{_≡_};
+ghost use Prim.Native.Nat.{ℕ, _+_, _<_, _≤_};
+ghost use lib.Bits.{bitXor};
+ghost use lib.ListN.{length, getD};
+ghost use Rattle.vectors.specs.Bounds.{maxInputs};
+ghost use Rattle.many.specs.Image.{Linear};
+ghost use Rattle.many.specs.Inner.Images.{wordBytes, byteBits, byteValues, tableWords, OnBits, Below, Tabled};
+
+// The bytes of a word, the bits of a byte, its values, and the words of all tables.
+const BYTES: usize = 8;
+
+const BITS: usize = 8;
+
+const VALUES: usize = 256;
+
+pub(crate) const WORDS: usize = BYTES * VALUES;
+
+// As many words again: each of the first span with image added.
+fn double(table: &mut [u64], span: usize, image: u64)
+    requires { ⌜ span + span ≤ length (now table) ⌝ }
+    ensures { λ _. ⌜ ((m : ℕ) → m < span → (getD (now (table .exit)) m 0 ≡ getD (now (table .entry)) m 0)
+        × (getD (now (table .exit)) (span + m) 0 ≡ bitXor (getD (now (table .entry)) m 0) image)) ⌝ }
+{
+    let mut m = 0;
+    while m < span {
+        table[span + m] = table[m] ^ image;
+        m += 1;
+    }
+}
+
+// The images of the 256 bytes, from those of the eight bits.
+fn fill_one(images: &[u64], table: &mut [u64])
+    requires { ⌜ (length (now images) ≡ byteBits) × (length (now table) ≡ byteValues) ⌝ }
+    ensures { λ _. ⌜ ((f : ℕ → ℕ) → Linear f → OnBits byteBits f (now (images .entry)) → Below byteValues f (now (table .exit))) ⌝ }
+{
+    table[0] = 0;
+    let mut b = 0;
+    let mut span = 1;
+    while b < BITS {
+        double(table, span, images[b]);
+        span *= 2;
+        b += 1;
+    }
+}
+
+// The images of the bytes of a word, from those of its bits.
+pub(crate) fn fill(images: &[u64], tables: &mut [u64])
+    requires { ⌜ (length (now images) ≡ maxInputs) × (length (now tables) ≡ tableWords) ⌝ }
+    ensures { λ _. ⌜ ((f : ℕ → ℕ) → Linear f → OnBits maxInputs f (now (images .entry)) → Tabled wordBytes f (now (tables .exit))) ⌝ }
+{
+    let mut t = 0;
+    while t < BYTES {
+        let b = BITS * t;
+        let m = VALUES * t;
+        let b_end = b + BITS;
+        let m_end = m + VALUES;
+        fill_one(&images[b..b_end], &mut tables[m..m_end]);
+        t += 1;
+    }
+}
+
+// The image of x, from those of its bytes.
+pub(crate) fn image(tables: &[u64; WORDS], x: u64) -> u64
+    ensures { λ r. ⌜ ((f : ℕ → ℕ) → Linear f → Tabled wordBytes f (now (tables .entry)) → r ≡ f x) ⌝ }
+{
+    tables[(x % 256) as usize]
+        ^ tables[256 + ((x >> 8) % 256) as usize]
+        ^ tables[512 + ((x >> 16) % 256) as usize]
+        ^ tables[768 + ((x >> 24) % 256) as usize]
+        ^ tables[1024 + ((x >> 32) % 256) as usize]
+        ^ tables[1280 + ((x >> 40) % 256) as usize]
+        ^ tables[1536 + ((x >> 48) % 256) as usize]
+        ^ tables[1792 + ((x >> 56) % 256) as usize]
+}
