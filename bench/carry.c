@@ -88,6 +88,8 @@ static uint64_t carried_word(const struct trial *t, const uint64_t *record, size
         return record[i] % ((uint64_t)1 << 32);
     if (i == AT_EXCESS && t->damaged)
         return carried.after[0].record[GUARD + AT_EXCESS];
+    if (i == AT_MARK)
+        return record[i] != 0;
     if (i < AT_VARIABLES)
         return record[i];
     size_t v = i - AT_VARIABLES;

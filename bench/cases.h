@@ -26,7 +26,7 @@ struct call {
 };
 
 /* The words of the record that go by name. */
-enum { AT_N, AT_P, AT_N1, AT_K, AT_L, AT_KEPT, AT_TRIES, AT_EXCESS, AT_VARIABLES, RECORD_WORDS = 40 };
+enum { AT_N, AT_P, AT_N1, AT_K, AT_L, AT_KEPT, AT_TRIES, AT_EXCESS, AT_VARIABLES, AT_MARK = 32, RECORD_WORDS = 40 };
 
 /* What the builds leave and the other entries read, in a form that can be damaged. */
 struct tables {

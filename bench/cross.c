@@ -2,6 +2,7 @@
  *   cross [CASES [SEED]]         a million cases by default
  *   cross --one NUMBER [SEED]    one of them again
  * A difference ends the program with status 1 and the case in full. */
+#include "add.h"
 #include "carry.h"
 #include "compare.h"
 #include "draw.h"
@@ -64,6 +65,7 @@ static void use_unit(struct trial *t, struct random *r)
     check_unwritten(t);
     if (write_both(t, &counts, r))
         carry_both(t, &counts, r);
+    add_both(t, &counts, *r);
 }
 
 static void copy_unit(struct memory *to, const struct memory *from)

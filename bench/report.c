@@ -5,15 +5,16 @@
 #include <stdlib.h>
 
 static const char *const side_names[2] = {"igu", "twin"};
-static const char *const entry_names[ENTRIES] = {"build", "build_given", "lookup", "lookup_many", "recover", "write", "read"};
+static const char *const entry_names[ENTRIES] = {"build", "build_given", "lookup", "lookup_many", "recover", "add", "write", "read"};
 
 /* The refusals that docs/SCOPE.md lets each entry give, as bits. */
-static const unsigned possible[ENTRIES] = {
+static const uint64_t possible[ENTRIES] = {
     [BUILD] = 0x38FF,       /* 0 to 7, 11, 12, 13 */
     [BUILD_GIVEN] = 0x37FF, /* 0 to 10, 12, 13 */
     [LOOKUP] = 0x4041,      /* 0, 6, 14 */
     [MANY] = 0x104041,      /* 0, 6, 14, 20 */
     [RECOVER] = 0xC001,     /* 0, 14, 15 */
+    [ADD] = 0x10000006469,  /* 0, 3, 5, 6, 10, 13, 14, 40 */
     [WRITE] = 0x104001,     /* 0, 14, 20 */
     [READ] = 0x1E00001,     /* 0, 21 to 24 */
 };
@@ -143,7 +144,7 @@ void report_counts(const struct counts *counts)
     for (size_t i = 0; i < kind_count; i++)
         printf("| %s | %" PRIu64 " |\n", kinds[i].name, counts->kinds[i]);
     print_spoils(counts);
-    puts("\n| Refusal | build | build_given | lookup | lookup_many | recover | write | read |\n|---|---|---|---|---|---|---|---|");
+    puts("\n| Refusal | build | build_given | lookup | lookup_many | recover | add | write | read |\n|---|---|---|---|---|---|---|---|---|");
     for (int number = 0; number < REFUSALS; number++)
         if (any_entry(number))
             print_row(counts, number);

@@ -5,9 +5,9 @@
 #include "memory.h"
 #include "spoil.h"
 
-enum entry { BUILD, BUILD_GIVEN, LOOKUP, MANY, RECOVER, WRITE, READ, ENTRIES };
+enum entry { BUILD, BUILD_GIVEN, LOOKUP, MANY, RECOVER, ADD, WRITE, READ, ENTRIES };
 
-#define REFUSALS 25
+#define REFUSALS 42
 #define KINDS_AT_MOST 32
 
 /* One case: the call, and for each of the two the memory before and after it. */
@@ -26,8 +26,8 @@ struct counts {
     uint64_t spoils[SPOILS];
 };
 
-/* Prints the case and both answers, and ends the program with status 1; argument is lookup's key, how many keys
- * there are, recovery's index or the length of the file. */
+/* Prints the case and both answers, and ends the program with status 1; argument is lookup's key or the vector
+ * added, how many keys there are, recovery's index or the length of the file. */
 _Noreturn void report_difference(const struct trial *t, const char *what, enum entry entry, uint64_t argument, const uint64_t answers[2]);
 
 void report_counts(const struct counts *counts);

@@ -3,6 +3,7 @@
 #include "igu.h"
 #include "random.h"
 #include "rivals.h"
+#include "speed_add.h"
 #include "speed_file.h"
 #include "speed_many.h"
 #include "speed_profiles.h"
@@ -244,6 +245,7 @@ int main(void)
     print_lookup_ratios();
     time_many();
     time_files();
+    time_add();
     time_profiles();
     print_verdicts();
     return 0;

@@ -20,7 +20,7 @@ struct spoil {
 };
 
 /* In the head; in the tables, and in the head to match; in any block, and in the number and order of blocks. */
-#define HEAD_SPOILS 18
+#define HEAD_SPOILS 20
 #define TABLE_SPOILS 8
 #define BLOCK_SPOILS 18
 #define SPOILS (HEAD_SPOILS + TABLE_SPOILS + BLOCK_SPOILS)
@@ -35,7 +35,7 @@ static inline const struct spoil *spoil_at(size_t i)
 }
 
 /* Where the head has what. */
-enum { HEAD_N = 8, HEAD_P = 9, HEAD_N1 = 10, HEAD_K = 11, HEAD_L = 13, HEAD_TRIES = 15, HEAD_VARIABLES = 19, HEAD_END = 67 };
+enum { HEAD_N = 8, HEAD_P = 9, HEAD_N1 = 10, HEAD_K = 11, HEAD_L = 13, HEAD_TRIES = 15, HEAD_VARIABLES = 19, HEAD_MARK = 67, HEAD_END };
 
 static inline size_t two_bytes(const uint8_t *at)
 {

@@ -40,7 +40,7 @@ static bool put_n_out(struct random *r, struct filed *f)
 static size_t least_n(const struct filed *f)
 {
     size_t most = f->bytes[HEAD_P] > 0 ? f->bytes[HEAD_P] : 1;
-    for (size_t at = HEAD_VARIABLES; at < HEAD_END; at++)
+    for (size_t at = HEAD_VARIABLES; at < HEAD_MARK; at++)
         if (f->bytes[at] > most)
             most = f->bytes[at];
     return most;
@@ -177,6 +177,16 @@ static bool fill_unused_place(struct random *r, struct filed *f)
     return true;
 }
 
+static bool change_mark(struct random *r, struct filed *f)
+{
+    return put_byte(f, HEAD_MARK, random_below(r, 2));
+}
+
+static bool put_mark_out(struct random *r, struct filed *f)
+{
+    return put_byte(f, HEAD_MARK, one_in(r, 2) ? 2 : random_between(r, 2, 255));
+}
+
 static bool fill_unused_head(struct random *r, struct filed *f)
 {
     size_t at = one_in(r, 4) ? HEAD_END : random_between(r, HEAD_END, CHECKED - 1);
@@ -201,5 +211,7 @@ const struct spoil head_spoils[HEAD_SPOILS] = {
     {"a dependent variable", 23, put_dependent},
     {"another independent variable", 0, put_independent},
     {"an unused place filled", 23, fill_unused_place},
+    {"the mark", 0, change_mark},
+    {"a mark above 1", 23, put_mark_out},
     {"an unused byte of the head filled", 23, fill_unused_head},
 };

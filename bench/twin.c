@@ -265,7 +265,7 @@ static void map_vectors(const unit *u, uint64_t *images) {
 
 /* ---- Row shift. ---- */
 
-enum { NO_FIT = MAX_CELLS, TAKEN_WORDS = (MAX_CELLS + MAX_ROWS) / 64 + 1 };
+enum { NO_FIT = TWIN_NO_FIT, TAKEN_WORDS = TWIN_TAKEN_WORDS };
 
 typedef struct {
     uint64_t taken[TAKEN_WORDS]; /* a bit for each cell; those from L up count as taken */
@@ -301,7 +301,7 @@ static void order_rows(shelf *s, const unit *u) {
 }
 
 /* The smallest displacement. 64 of them are tried together: d is closed when the cell c + d of some column c is taken. */
-static unsigned first_fit(const uint64_t *taken, uint64_t L, const uint16_t *column, unsigned weight) {
+unsigned twin_first_fit(const uint64_t *taken, uint64_t L, const uint16_t *column, unsigned weight) {
     for (unsigned word = 0; word <= (L - 1) / 64; word++) {
         uint64_t closed = 0;
         for (unsigned t = 0; t < weight && ~closed != 0; t++) {
@@ -311,6 +311,17 @@ static unsigned first_fit(const uint64_t *taken, uint64_t L, const uint16_t *col
         if (~closed != 0) return word * 64 + (unsigned)__builtin_ctzll(~closed);
     }
     return NO_FIT;
+}
+
+/* From L up every bit is 1. */
+static void take_none(uint64_t *taken, uint64_t L) {
+    for (unsigned w = 0; w < TAKEN_WORDS; w++) taken[w] = w < L / 64 ? 0 : ~(uint64_t)0;
+    taken[L / 64] = ~low_bits(L % 64);
+}
+
+void twin_take_cells(uint64_t taken[TWIN_TAKEN_WORDS], const uint16_t *g, uint64_t L) {
+    take_none(taken, L);
+    for (uint64_t cell = 0; cell < L; cell++) taken[cell / 64] |= (uint64_t)(g[cell] != 0) << cell % 64;
 }
 
 /* The least L with which the row would fit: past L every cell is free. */
@@ -332,7 +343,7 @@ static unsigned place_row(shelf *s, const unit *u, const uint64_t *images, unsig
     uint16_t column[MAX_VECTORS];
     unsigned weight = 0, from = (unsigned)(u->n1 + u->n - u->p);
     for (unsigned v = s->last[row]; v != 0; v = s->before[v]) column[weight++] = from == 64 ? 0 : (uint16_t)(images[v - 1] >> from);
-    unsigned displacement = first_fit(s->taken, u->L, column, weight);
+    unsigned displacement = twin_first_fit(s->taken, u->L, column, weight);
     if (displacement == NO_FIT) return NO_FIT;
     u->h[row] = (uint16_t)displacement;
     for (unsigned v = s->last[row], t = 0; v != 0; v = s->before[v], t++) {
@@ -360,8 +371,7 @@ static uint64_t place_rows(const unit *u, const uint64_t *images, uint64_t *reco
     clear_tables(u);
     chain_vectors(&s, u, images);
     order_rows(&s, u);
-    for (unsigned w = 0; w < TAKEN_WORDS; w++) s.taken[w] = w < u->L / 64 ? 0 : ~(uint64_t)0;
-    s.taken[u->L / 64] = ~low_bits(u->L % 64);
+    take_none(s.taken, u->L);
     for (unsigned t = 0; t < s.rows; t++) {
         unsigned displacement = place_row(&s, u, images, s.order[t]);
         if (displacement == NO_FIT) {

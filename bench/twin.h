@@ -26,6 +26,9 @@ uint64_t twin_lookup_many(const uint64_t record[TWIN_RECORD_WORDS], const uint16
 uint64_t twin_recover(const uint64_t record[TWIN_RECORD_WORDS], const uint16_t *h, size_t h_len, const uint16_t *g, size_t g_len,
                       const uint64_t *aux, size_t aux_len, size_t i, uint64_t vector[1]);
 
+uint64_t twin_add(uint64_t record[TWIN_RECORD_WORDS], uint16_t *h, size_t h_len, uint16_t *g, size_t g_len, uint64_t *aux, size_t aux_len,
+                  uint64_t x);
+
 uint64_t twin_write(const uint64_t record[TWIN_RECORD_WORDS], const uint16_t *h, size_t h_len, const uint16_t *g, size_t g_len,
                     const uint64_t *aux, size_t aux_len, uint8_t *file, size_t file_len);
 

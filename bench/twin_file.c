@@ -34,7 +34,7 @@ static uint32_t check_of(const uint8_t *block) {
 
 /* ---- The layout. ---- */
 
-enum { TABLES = 3, VARIABLES_AT = 15 };
+enum { TABLES = 3, VARIABLES_AT = 15, MARK_AT = VARIABLES_AT + 2 * TWIN_VARIABLES, HEAD_SIZE = MARK_AT + 1 };
 static const uint32_t kinds[TABLES] = {ROWS, CELLS, WORDS};
 static const uint8_t letters[4] = {0x49, 0x47, 0x55, 0x31};
 
@@ -74,7 +74,7 @@ static uint32_t put_table(uint8_t *file, uint32_t number, uint32_t kind, const u
 }
 
 static void put_head(uint8_t *file, const uint64_t *record) {
-    uint8_t head[VARIABLES_AT + 2 * TWIN_VARIABLES] = {0};
+    uint8_t head[HEAD_SIZE] = {0};
     memcpy(head, letters, sizeof letters);
     put(head + 4, record[AT_N], 1);
     put(head + 5, record[AT_P], 1);
@@ -83,6 +83,7 @@ static void put_head(uint8_t *file, const uint64_t *record) {
     put(head + 9, record[AT_L], 2);
     put(head + 11, record[AT_TRIES], 4);
     for (uint64_t t = 0; t < record[AT_P]; t++) put(head + VARIABLES_AT + 2 * t, record[AT_VARIABLES + t], 2);
+    head[MARK_AT] = record[AT_MARK] != 0;
     put_block(file, HEAD, 0, head, sizeof head);
 }
 
@@ -115,7 +116,8 @@ static int take_head(const uint8_t *file, uint64_t *record) {
     uint64_t p = head[5];
     size_t used = VARIABLES_AT + 2 * p;
     if (take(file, 4) != opening(HEAD, 0) || memcmp(head, letters, sizeof letters) != 0) return 0;
-    if (p > TWIN_VARIABLES || memcmp(head + used, zeros, PAYLOAD - used) != 0) return 0;
+    if (p > TWIN_VARIABLES || memcmp(head + used, zeros, MARK_AT - used) != 0) return 0;
+    if (head[MARK_AT] > 1 || memcmp(head + HEAD_SIZE, zeros, PAYLOAD - HEAD_SIZE) != 0) return 0;
     record[AT_N] = head[4];
     record[AT_P] = p;
     record[AT_N1] = head[6];
@@ -123,6 +125,7 @@ static int take_head(const uint8_t *file, uint64_t *record) {
     record[AT_L] = take(head + 9, 2);
     record[AT_TRIES] = take(head + 11, 4);
     for (uint64_t t = 0; t < p; t++) record[AT_VARIABLES + t] = take(head + VARIABLES_AT + 2 * t, 2);
+    record[AT_MARK] = head[MARK_AT];
     return twin_settle(record);
 }
 

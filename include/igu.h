@@ -1,22 +1,22 @@
 /* The index generation unit for C: a list of k different vectors of n bits, numbered 1 to k, turned into three small tables
  * H, G and AUX, so that a key gives its number, or 0, with one addition.
  *
- * The functions are proved, in crate bridge and, those for profile keys, in crate engine, each with its archive; docs/PROMISES.md names
- * the definition that each one equals. The refusals are those of README.md. None has a condition on numbers: every call ends, with an
- * answer or a refusal, if the caller keeps to this:
+ * The functions are proved, in crate bridge, igu_add in crate adding and those for profile keys in crate engine, each with its archive;
+ * docs/PROMISES.md names the definition that each one equals. The refusals are those of README.md. None has a condition on numbers: every
+ * call ends, with an answer or a refusal, if the caller keeps to this:
  *
  * Memory. Every pointer is aligned and not null, also with length 0, and is good for as many elements as its length says (or 40, 24, 5
  * or 1, as the declaration says). Memory that a call writes overlaps no other memory of that call.
  *
  * Stack. A call needs at most this much of it: igu_profiles_build 90 KB, igu_build 80 KB, igu_build_given 20 KB, igu_lookup_many 18 KB,
- * igu_write 3 KB, igu_read, igu_recover, igu_lookup and igu_profile 2 KB; while rows are placed, a build has at most 4 KB in use, and
- * igu_profiles_build 8 KB more for its keys. With less it can end the process, as igu_build does on a stack of 64 KB.
+ * igu_add 16 KB, igu_write 3 KB, igu_read, igu_recover, igu_lookup and igu_profile 2 KB; while rows are placed, a build has at most 4 KB in
+ * use, and igu_profiles_build 8 KB more for its keys. With less it can end the process, as igu_build does on a stack of 64 KB.
  * docs/FIGURES.md has what was measured.
  *
  * Threads. The functions keep nothing between calls. Calls may run in several threads at once, as long as no call writes memory that
  * another one is using: each build has a record and tables of its own; the other calls may share those of a build that has ended, each
  * recovery with its own place for the vector, each lookup of many keys with its own indices, each write with a file of its own. A read
- * has a record and tables of its own, as a build has. */
+ * has a record and tables of its own, as a build has, and an addition has those that it amends to itself. */
 #ifndef IGU_H
 #define IGU_H
 
@@ -27,7 +27,7 @@
 extern "C" {
 #endif
 
-/* The record of a unit, which the builds write and the others read:
+/* The record of a unit, which the builds write, igu_add amends and the others read:
  *   [0] n          inputs, 1 to 64
  *   [1] p          variables
  *   [2] n1         row variables, the first n1 of the p
@@ -38,7 +38,8 @@ extern "C" {
  *   [7] excess     p minus the smallest m with 2^m >= k, in two's complement; 0 or more as a build leaves it
  *   [8] to [31]    the variables, i + 256 * j + 65536 * part; j is 0 for the single input x_i, part is 0 for row and 1 for column;
  *                  0 where unused
- *   [32] to [39]   written as 0, never read */
+ *   [32] mark      0 as a build leaves it, 1 where vectors were added since; read as 1 where it is any other number but 0
+ *   [33] to [39]   written as 0, never read */
 #define IGU_RECORD_WORDS 40
 #define IGU_VARIABLES 24
 
@@ -79,9 +80,20 @@ uint64_t igu_lookup_many(const uint64_t record[IGU_RECORD_WORDS], const uint16_t
 uint64_t igu_recover(const uint64_t record[IGU_RECORD_WORDS], const uint16_t *h, size_t h_len, const uint16_t *g, size_t g_len,
                      const uint64_t *aux, size_t aux_len, size_t i, uint64_t vector[1]);
 
-/* A file is made of blocks: the head, with the numbers and variables of the record, then H[0..2^n1), G[0..L) and AUX[0..k], each from a
- * block of its own, 252 words of H or G or 63 of AUX in a block. Every block ends with two checks on its other bytes. No file has more
- * than 68 blocks. */
+/* Adds x to the list of a unit, with the number k + 1. Needs aux_len >= k + 2. Returns refusal + 256 * place. The result 0 is acceptance:
+ * with record and tables as a build or igu_read left them, or an addition to such, they hold the list with x at its end. If the cell that
+ * x leads to is free, that cell of G and AUX[k + 1] are written; otherwise the row of x is lifted and put where it fits with x in it, so
+ * that a word of H and the cells of that row are written too. In the record k is one more, the excess is the one for so many, the mark is
+ * 1, words [33] to [39] are 0, and all else stays, the tries too. On a refusal no word is written, of the record neither. Refusals: 14
+ * the unit is not well formed, some vector cannot be recovered, or any of the 24 variable words is above 2^17 - 1; 6 x has a bit beyond n,
+ * place k + 1; 40 x is a vector of the list already, place its number; 3 k is 1,023; 5 aux_len is too small; 10 x agrees with a vector on
+ * every variable, place k + 1; 13 the row of x has no displacement, place that row. */
+uint64_t igu_add(uint64_t record[IGU_RECORD_WORDS], uint16_t *h, size_t h_len, uint16_t *g, size_t g_len, uint64_t *aux, size_t aux_len,
+                 uint64_t x);
+
+/* A file is made of blocks: the head, with the numbers, the variables and the mark of the record, then H[0..2^n1), G[0..L) and AUX[0..k],
+ * each from a block of its own, 252 words of H or G or 63 of AUX in a block. Every block ends with two checks on its other bytes. No file
+ * has more than 68 blocks. */
 #define IGU_BLOCK_BYTES 512
 #define IGU_FILE_BYTES (68 * IGU_BLOCK_BYTES)
 
@@ -93,9 +105,9 @@ uint64_t igu_write(const uint64_t record[IGU_RECORD_WORDS], const uint16_t *h, s
                    const uint64_t *aux, size_t aux_len, uint8_t *file, size_t file_len);
 
 /* Reads a file into a record and tables, and returns the refusal. It accepts the files that igu_write gives and no other. On acceptance
- * record has n, p, n1, k, L, tries and the variables of the file, part marks by n1, kept inputs and excess as a build works them out, and
- * H[0..2^n1), G[0..L) and AUX[0..k] have the words of the file; so lookups and recoveries answer as they did on the unit written. No
- * other word is written. On a refusal record is all 0 and the tables are as they were. Refusal 21: file_len is 0 or no multiple of 512;
+ * record has n, p, n1, k, L, tries, the variables and the mark of the file, part marks by n1, kept inputs and excess as a build works them
+ * out, and H[0..2^n1), G[0..L) and AUX[0..k] have the words of the file; so lookups and recoveries answer as they did on the unit written.
+ * No other word is written. On a refusal record is all 0 and the tables are as they were. Refusal 21: file_len is 0 or no multiple of 512;
  * 22: a block's check is wrong; 23: anything else in the file is wrong; 24: h_len, g_len or aux_len is less than the unit needs (4,096,
  * 8,192 and 1,024 always suffice). */
 uint64_t igu_read(const uint8_t *file, size_t file_len, uint16_t *h, size_t h_len, uint16_t *g, size_t g_len, uint64_t *aux,

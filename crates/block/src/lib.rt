@@ -10,6 +10,7 @@ ghost use Rattle.block.specs.Inner.Columns.{lanes, halfSize, Columns, Ad
 
 mod read;
 
+pub use read::blank;
 pub use read::laid;
 pub use read::number;
 pub use read::right;

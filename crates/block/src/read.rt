@@ -52,7 +52,7 @@ pub fn right(block: &[u8]) -> bool
 }
 
 // Whether the bytes from a place up to the check are 0.
-fn blank(block: &[u8], at: usize) -> bool
+pub fn blank(block: &[u8], at: usize) -> bool
     ensures { λ r. ⌜ r ≡ blankFrom at (now (block .entry)) ⌝ }
 {
     let end = lists::least(CHECK_AT, block.len());

@@ -99,7 +99,7 @@ seen-read words e = rw e
 -- the blank record with another k
 abbrev keyed : Record → ℕ → Record
 keyed b k =
-    record { n = b .n; p = b .p; n1 = b .n1; k = k; cells = b .cells; kept = b .kept; tries = b .tries; excess = b .excess; variables = b .variables }
+    record { n = b .n; p = b .p; n1 = b .n1; k = k; cells = b .cells; kept = b .kept; tries = b .tries; excess = b .excess; variables = b .variables; mark = b .mark }
 
 pub seen-unread : (words : List ℕ) (b : Record) → allInRange (variableWords words) ≡ false → b ≡ blankRecord → keyed b (getD words 3 0) ≡ unitSeen words
 unfolding unitSeen

@@ -30,7 +30,7 @@ use Rattle.bridge.proofs.Carried.{made, variables-carried, carried, car
 
 -- ---- what an accepted build leaves
 
-variables-many : (n1 : ℕ) (ks : List Kind) → length ks ≤ maxVariables → length (variablesOf n1 ks) ≡ maxVariables
+pub variables-many : (n1 : ℕ) (ks : List Kind) → length ks ≤ maxVariables → length (variablesOf n1 ks) ≡ maxVariables
 variables-many n1 ks h =
     let a : List Variable = map (λ k. made k Row) (take n1 ks) in
     let b : List Variable = map (λ k. made k Column) (drop n1 ks) in

@@ -7,8 +7,8 @@ use mathlib.Core.List.{List, [], _∷_, _++_, map}
 use borrow.Author.Tests.{ltb-false, leb-false, lt-ltb}
 use lib.Dec.{eqb, leb, ltb}
 use lib.IntN.{ℤ}
-use lib.ListN.{length, take, drop, replicate, length-map}
-use lib.Seq.{take-append-le, take-all}
+use lib.ListN.{length, getD, take, drop, replicate, length-map}
+use lib.Seq.{take-append-le, take-all, getD-append-add}
 use mir.Facts.{toZ-ofZ}
 use mir.Syntax.{w64}
 use mir.Val.{SFits}
@@ -25,8 +25,10 @@ use Rattle.vectors.specs.declared.Variable.{Variable}
 use Rattle.vectors.specs.Variable.{faulty, blankVariable}
 use Rattle.record.specs.declared.Record.{Record}
 use Rattle.vectors.specs.Bounds.{maxInputs, maxVariables}
-use Rattle.record.specs.Record.{variablesOf}
-use Rattle.bridge.specs.Flat.{kindWord, partWord, variableWord, kindAt, partAt, variableAt, variableWords, allInRange, spareWords, flatOf, unitAt}
+use Rattle.record.specs.Record.{markNumber, markOf, variablesOf}
+use Rattle.record.proofs.MarkNumbers.{mark-back}
+use Rattle.bridge.specs.Flat.{kindWord, partWord, variableWord, kindAt, partAt, variableAt, variableWords, allInRange, markPlace, spareWords, flatOf, unitAt}
+use Rattle.bridge.proofs.Records.{unit-read}
 use Rattle.bridge.proofs.Words.{kind-one, kind-two, part-row, part-column, variable-in}
 
 -- ---- a variable
@@ -107,14 +109,21 @@ words-of : (u : Record) → length (u .variables) ≡ maxVariables → variableW
 unfolding flatOf
 words-of u e =
     let l : length (map variableWord (u .variables)) ≡ maxVariables = length-map (u .variables) variableWord ∙ e in
-    take-append-le maxVariables (map variableWord (u .variables)) (replicate spareWords 0) (omega arith) ∙ take-all maxVariables (map variableWord (u .variables)) (omega arith)
+    take-append-le maxVariables (map variableWord (u .variables)) (markNumber (u .mark) ∷ replicate spareWords 0) (omega arith) ∙ take-all maxVariables (map variableWord (u .variables)) (omega arith)
+
+mark-of : (u : Record) → length (u .variables) ≡ maxVariables → markOf (getD (flatOf u) markPlace 0) ≡ u .mark
+unfolding flatOf
+mark-of u e =
+    let vs : List ℕ = map variableWord (u .variables) in
+    let l : length vs + 0 ≡ maxVariables = omega (arith, length-map (u .variables) variableWord) in
+    ap markOf (rw l at (getD-append-add vs (markNumber (u .mark) ∷ replicate spareWords 0) 0 0)) ∙ mark-back (u .mark)
 
 module _ (u : Record) (many : length (u .variables) ≡ maxVariables) (fits : SFits w64 (u .excess)) (c : All Carries (u .variables)) where
   pub carried-range : allInRange (variableWords (flatOf u)) ≡ true
   carried-range = ap allInRange (words-of u many) ∙ in-range (u .variables) c
 
   pub carried : unitAt (flatOf u) ≡ u
-  unfolding unitAt flatOf
+  unfolding flatOf
   carried =
-      ap₂ (λ (e : ℤ) (vs : List Variable). record { n = u .n; p = u .p; n1 = u .n1; k = u .k; cells = u .cells; kept = u .kept; tries = u .tries; excess = e; variables = vs })
-      (toZ-ofZ fits) (ap (map variableAt) (words-of u many) ∙ read-all (u .variables) c)
+      let vs : map variableAt (variableWords (flatOf u)) ≡ u .variables = ap (map variableAt) (words-of u many) ∙ read-all (u .variables) c in
+      sym (unit-read (flatOf u) (u .excess) (u .variables) (u .mark) (sym (toZ-ofZ fits)) (sym vs) (sym (mark-of u many)))

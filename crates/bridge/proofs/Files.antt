@@ -9,6 +9,7 @@ use lib.Seq.{take-at}
 use Rattle.vectors.specs.Bounds.{maxVariables}
 use Rattle.record.specs.declared.Record.{Record}
 use Rattle.record.specs.Tables.{Tables, over}
+use Rattle.record.specs.Formed.{sound}
 use Rattle.record.specs.Holds.{Holds}
 use Rattle.lookup.specs.Lookup.{lookupOf}
 use Rattle.recover.specs.Recover.{recoverOf}
@@ -27,11 +28,30 @@ use Rattle.file.proofs.Outcomes.{file-length, file-longest, write-fits}
 use Rattle.file.proofs.Decoding.Built.{chosen-record-carried, given-record-carried}
 use Rattle.file.proofs.Loading.Carried.{roomy-long, read-written}
 use Rattle.file.proofs.Loading.Demands.{carried-chosen-demand-2, carried-given-demand-2}
-use Rattle.bridge.specs.Flat.{variableAt, flatOf}
+use Rattle.bridge.specs.Flat.{variableAt, variableWords, allInRange, flatOf, unitAt}
 use Rattle.bridge.specs.Calls.{builtAnswer, Left, left, leftBy, buildCall, givenCall, Filed, filed, writeCall, readCall}
 use Rattle.bridge.specs.Boundary.{Exact, Carries}
 use Rattle.bridge.proofs.Answers.{build-left, given-left, filed-read}
 use Rattle.bridge.proofs.Boundary.{Carried, chosen-carried, given-carried, no-refusal, exact}
+
+-- ---- the bytes that are written
+
+module _ (u : Record) (t : Tables) (range : allInRange (variableWords (flatOf u)) ≡ true) (back : unitAt (flatOf u) ≡ u) (h : sound u t ≡ true) (target : List ℕ) (room : longestFile ≤ length target) where
+  written : writeCall (flatOf u) t target ≡ filed (256 * length (fileOf u t)) (over (fileOf u t) target)
+  written =
+      let bytes : List ℕ = fileOf u t in
+      let size : length bytes ≤ length target = omega (arith, file-length u t h, file-longest u t h) in
+      let w : Written = record { refusal = 0; place = 0; length = length bytes } in
+      sym (filed-read (flatOf u) t target u w (over bytes target) (256 * length bytes) range (sym back) (sym (write-fits u t h target (omega (arith, file-length u t h)))) (omega arith))
+
+  pub front : take (writeCall (flatOf u) t target .answer / 256) (writeCall (flatOf u) t target .target) ≡ fileOf u t
+  front =
+      let bytes : List ℕ = fileOf u t in
+      let d : 256 * length bytes / 256 ≡ length bytes = omega arith in
+      ap (λ (f : Filed). take (f .answer / 256) (f .target)) written
+      ∙ ap (λ (i : ℕ). take i (over bytes target)) d ∙ take-at bytes (drop (length bytes) target) (length bytes) refl
+
+-- ---- and what is read of them
 
 module _ (n : ℕ) (vs : List ℕ) (o : Outcome) (flat : Carried o) (held : o .built .refusal ≡ 0 → Holds (o .built .unit) (o .tables) vs) (same : RecordCarried o)
     (demand : (into : Tables) → Roomy into → Demand2 lookupOf recoverOf n vs (facts.carried readOf into o)) where
@@ -41,15 +61,6 @@ module _ (n : ℕ) (vs : List ℕ) (o : Outcome) (flat : Carried o) (held : o .b
   abbrev bytes : List ℕ
   bytes = fileOf unit (o .tables)
 
-  -- what is written
-  written : o .built .refusal ≡ 0 → (target : List ℕ) → longestFile ≤ length target → writeCall (flatOf unit) (o .tables) target ≡ filed (256 * length bytes) (over bytes target)
-  written z target room =
-      let h = held z .is-sound in
-      let size : length bytes ≤ length target = omega (arith, file-length unit (o .tables) h, file-longest unit (o .tables) h) in
-      let w : Written = record { refusal = 0; place = 0; length = length bytes } in
-      sym (filed-read (flatOf unit) (o .tables) target unit w (over bytes target) (256 * length bytes) (flat z .1) (sym (flat z .0)) (sym (write-fits unit (o .tables) h target (omega (arith, file-length unit (o .tables) h)))) (omega arith))
-
-  -- what is read of it
   unit-read : o .built .refusal ≡ 0 → (into : Tables) → Roomy into → facts.carried readOf into o .built .unit ≡ unit
   unit-read z into roomy =
       let h = held z .is-sound in
@@ -59,14 +70,6 @@ module _ (n : ℕ) (vs : List ℕ) (o : Outcome) (flat : Carried o) (held : o .b
   none-refused z into roomy =
       let h = held z .is-sound in
       ap (λ (r : Reading). r .refusal) (read-written unit (o .tables) into h (roomy-long unit (o .tables) into h roomy))
-
-  -- the bytes that were written
-  pub front : o .built .refusal ≡ 0 → (target : List ℕ) → longestFile ≤ length target
-      → take (writeCall (flatOf unit) (o .tables) target .answer / 256) (writeCall (flatOf unit) (o .tables) target .target) ≡ bytes
-  front z target room =
-      let d : 256 * length bytes / 256 ≡ length bytes = omega arith in
-      ap (λ (f : Filed). take (f .answer / 256) (f .target)) (written z target room)
-      ∙ ap (λ (i : ℕ). take i (over bytes target)) d ∙ take-at bytes (drop (length bytes) target) (length bytes) refl
 
   pub read-left : (z : o .built .refusal ≡ 0) → o .built .place ≡ 0 → o .built .needed ≡ 0 → (into : Tables) → Roomy into → readCall bytes into ≡ leftBy (facts.carried readOf into o)
   unfolding readCall
@@ -84,7 +87,7 @@ module _ (n : ℕ) (vs : List ℕ) (o : Outcome) (flat : Carried o) (held : o .b
       let z = no-refusal (o .built .refusal) (o .built .place) (o .built .needed) e in
       let q : o .built .place ≡ 0 = omega arith in
       let y : o .built .needed ≡ 0 = omega arith in
-      let f = front z target room in
+      let f = front unit (o .tables) (flat z .1) (flat z .0) (held z .is-sound) target room in
       let l = read-left z q y into roomy in
       subst (λ (x : List ℕ). (readCall x into .answer ≡ 0) × Exact n vs (readCall x into)) (sym f)
       (subst (λ (y : Left). (y .answer ≡ 0) × Exact n vs y) (sym l) (e, exact n vs (facts.carried readOf into o) (demand into roomy) (flat-read z into roomy)))

@@ -13,6 +13,7 @@ use Rattle.vectors.specs.declared.Part.{Part}
 use Rattle.vectors.specs.declared.Part.the-variants.{Row, Column}
 use Rattle.vectors.specs.declared.Variable.{Variable}
 use Rattle.record.specs.declared.Record.{Record}
+use Rattle.record.specs.Record.{markBuilt, markNumber, markOf}
 use Rattle.vectors.specs.Bounds.{maxVariables}
 use Rattle.vectors.specs.Variable.{blankVariable}
 
@@ -42,18 +43,21 @@ inRange w = ltb w (2 ^ 17)
 unfoldable pub variableAt : ℕ → Variable
 variableAt w = cond (inRange w) (record { kind = kindAt (w % 256) (w / 256 % 256); part = partAt (w / 65536) }) blankVariable
 
--- where the variables begin, and the words after them, which are written as 0 and never read
+-- where the variables begin, the mark behind them, and the words after it, which are written as 0 and never read
 abbrev pub firstVariable : ℕ
 firstVariable = 8
 
-abbrev pub spareWords : ℕ
-spareWords = 8
+abbrev pub markPlace : ℕ
+markPlace = 32
 
--- the record in 40 words: n, p, n1, k, L, the mask of the kept inputs, the tries, the excess in two's complement, the variables, and 8 words of 0
+abbrev pub spareWords : ℕ
+spareWords = 7
+
+-- the record in 40 words: n, p, n1, k, L, the mask of the kept inputs, the tries, the excess in two's complement, the variables, the mark, and 7 words of 0
 unfoldable pub flatOf : Record → List ℕ
 flatOf u =
     u .n ∷ u .p ∷ u .n1 ∷ u .k ∷ u .cells ∷ u .kept ∷ u .tries ∷ ofZ w64 (u .excess) ∷ map variableWord (u .variables)
-    ++ replicate spareWords 0
+    ++ (markNumber (u .mark) ∷ replicate spareWords 0)
 
 -- the variable words of a record
 abbrev pub variableWords : List ℕ → List ℕ
@@ -73,6 +77,7 @@ unitAt words =
       tries = getD words 6 0;
       excess = toZ w64 (getD words 7 0);
       variables = map variableAt (variableWords words);
+      mark = markOf (getD words markPlace 0);
     }
 
 unfoldable pub allInRange : List ℕ → Bool
@@ -82,7 +87,7 @@ allInRange (w ∷ ws) = inRange w && allInRange ws
 -- a record of k vectors that lookup refuses as 14: no input
 abbrev pub unreadable : ℕ → Record
 unreadable k =
-    record { n = 0; p = 0; n1 = 0; k = k; cells = 0; kept = 0; tries = 0; excess = pos 0; variables = replicate maxVariables blankVariable }
+    record { n = 0; p = 0; n1 = 0; k = k; cells = 0; kept = 0; tries = 0; excess = pos 0; variables = replicate maxVariables blankVariable; mark = markBuilt }
 
 -- the unit of any record: one that is refused where a word is no variable's
 unfoldable pub unitSeen : List ℕ → Record

@@ -15,8 +15,10 @@ use vectors::MAX_VARIABLES;
 use vectors::Part;
 use vectors::Variable;
 
-// The words of a flat record; variables stand in words 8 to 31.
+// The words of a flat record; variables stand in words 8 to 31, the mark behind them.
 pub const WORDS: usize = 40;
+
+const MARK_PLACE: usize = 32;
 
 fn kind_word(kind: Kind) -> u64
     ensures { λ r. ⌜ (r ≡ spec.kindWord kind) × (r < 65536) ⌝ }
@@ -174,6 +176,8 @@ pub fn words(unit: Record) -> [u64; WORDS]
     w[5] = unit.kept;
     w[6] = unit.tries;
     w[7] = twos(unit.excess);
+    let mark = unit.mark;
+    w[MARK_PLACE] = record::mark_number(mark) as u64;
     let variables = unit.variables;
     write_variables(variables, &mut w[8..32]);
     w
@@ -194,11 +198,12 @@ pub(crate) fn unit(words: &[u64; WORDS], variables: [Variable; MAX_VARIABLES]) -
         tries: words[6],
         excess: signed(words[7]),
         variables,
+        mark: record::mark_of(words[MARK_PLACE]),
     }
 }
 
 // The unit of any record: one with no input, which is refused as 14, where a word of the variables is out of range.
-pub(crate) fn seen(words: &[u64; WORDS]) -> Record
+pub fn seen(words: &[u64; WORDS]) -> Record
     ensures { λ r. ⌜ r ≡ spec.unitSeen (now (words .entry)) ⌝ }
 {
     if !readable(words) {

@@ -40,18 +40,18 @@ placeLimit = 2 ^ maxSide
 
 -- ---- the ladder
 
-abbrev Low : Refusal → Type 0
+abbrev pub Low : Refusal → Type 0
 Low r = r .place < placeLimit
 
-if-low : (m : ℕ) (b : Bool) → Low (refuseIf m b)
+pub if-low : (m : ℕ) (b : Bool) → Low (refuseIf m b)
 if-low m true = omega arith
 if-low m false = omega arith
 
-at-low : (m i : ℕ) → i < placeLimit → Low (refuseAt m i)
+pub at-low : (m i : ℕ) → i < placeLimit → Low (refuseAt m i)
 at-low m zero h = omega arith
 at-low m (suc i) h = h
 
-ladder-more : (r : Refusal) (rs : List Refusal) → Low r → Low (ladder rs) → Low (ladder (r ∷ rs))
+pub ladder-more : (r : Refusal) (rs : List Refusal) → Low r → Low (ladder rs) → Low (ladder (r ∷ rs))
 unfolding ladder
 ladder-more r rs h l = go (r .number)
   where
@@ -59,7 +59,7 @@ ladder-more r rs h l = go (r .number)
     go zero = l
     go (suc m) = h
 
-ladder-low : (rs : List Refusal) → All Low rs → Low (ladder rs)
+pub ladder-low : (rs : List Refusal) → All Low rs → Low (ladder rs)
 unfolding ladder
 ladder-low [] l = omega arith
 ladder-low (r ∷ rs) l = ladder-more r rs (l .0) (ladder-low rs (l .1))

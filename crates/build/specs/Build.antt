@@ -14,7 +14,7 @@ use Rattle.rows.specs.Care.{Care, caresBy}
 use Rattle.rows.specs.Place.{Placing, place}
 use Rattle.rows.specs.declared.End.the-variants.{All, NoFit, Unfit}
 use Rattle.record.specs.declared.Record.{Record}
-use Rattle.record.specs.Record.{blankRecord, recordOf}
+use Rattle.record.specs.Record.{markBuilt, blankRecord, recordOf}
 use Rattle.record.specs.Tables.{Tables, lent, over}
 use Rattle.build.specs.declared.Built.{Built}
 use Rattle.build.specs.declared.Refusal.{Refusal}
@@ -75,7 +75,7 @@ finish n n1 ks cells vs t =
     let P = placingOf n1 ks cells vs in
     elim (P .end) [
       | All ↦ record {
-        built = accepted (recordOf n n1 (length vs) ks cells (P .state .tries));
+        built = accepted (recordOf markBuilt n n1 (length vs) ks cells (P .state .tries));
         tables = written n n1 ks vs P t;
       }
       | NoFit row tried needed ↦ refusedFor (record { number = 13; place = row }) needed (zeroed n1 cells (length vs) t)

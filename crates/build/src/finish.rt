@@ -10,7 +10,7 @@ ghost use Rattle.vectors.specs.Bounds.{maxInputs, maxVariables, maxSide, maxVec
 ghost use Rattle.vectors.specs.Masks.{wordBy};
 ghost use Rattle.rows.specs.Answer.{left, settle};
 ghost use Rattle.record.specs.Tables.{lent};
-ghost use Rattle.record.specs.Record.{blankRecord, recordOf};
+ghost use Rattle.record.specs.Record.{markBuilt, blankRecord, recordOf};
 ghost use Rattle.build.specs.Build as spec;
 ghost use Rattle.build.specs.Build.{after, accepted, auxOf, placingOf, outcome};
 ghost use Rattle.build.specs.Refusals.{check12};
@@ -18,6 +18,7 @@ ghost use Rattle.build.specs.Inner.Ready.{Listed, Split, kindsBy};
 ghost use Rattle.build.specs.Inner.Places.{placeBy};
 use crate::Built;
 use crate::Chart;
+use record::Mark;
 use record::Record;
 use rows::End;
 use rows::Placed;
@@ -86,7 +87,7 @@ fn accept(chart: Chart, cells: usize, tries: u64, vectors: &[u64], aux: &mut [u6
     requires sizes { ⌜ (length (now aux) ≡ suc (length (now vectors))) × (chart .p ≤ maxVariables) ⌝ }
     requires list { ⌜ Listed (chart .n) (now vectors) ⌝ }
     requires split { ⌜ Split (chart .n) (chart .n1) (kindsBy chart) ⌝ }
-    ensures { λ r. ⌜ r ≡ accepted (recordOf (chart .n) (chart .n1) (length (now (vectors .entry))) (kindsBy chart) cells tries) ⌝ }
+    ensures { λ r. ⌜ r ≡ accepted (recordOf markBuilt (chart .n) (chart .n1) (length (now (vectors .entry))) (kindsBy chart) cells tries) ⌝ }
     ensures { λ _. ⌜ now (aux .exit) ≡ auxOf (chart .n) (chart .n1) (kindsBy chart) (now (vectors .entry)) ⌝ }
 {
     let n = chart.n;
@@ -109,6 +110,7 @@ fn accept(chart: Chart, cells: usize, tries: u64, vectors: &[u64], aux: &mut [u6
         tries,
         excess,
         variables: marks,
+        mark: Mark::Built,
     };
     Built {
         refusal: 0,

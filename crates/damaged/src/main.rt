@@ -2,6 +2,7 @@
 // and such a unit printed.
 use libc::STDOUT_FILENO;
 use unit::Found;
+use unit::Mark;
 use unit::Record;
 use unit::Recovered;
 use vectors::Kind;
@@ -121,7 +122,7 @@ fn unsound(u: Record, h: &[u16], g: &[u16], aux: &[u64]) {
     both(Record { variables: v, ..u }, h, g, aux);
 }
 
-// Part marks turned round: neither lookup nor recovery reads them.
+// Part marks turned round, and the unit marked amended: neither lookup nor recovery reads them.
 fn other_marks(u: Record, h: &[u16], g: &[u16], aux: &[u64]) {
     let mut v = u.variables;
     v[0] = Variable {
@@ -129,6 +130,8 @@ fn other_marks(u: Record, h: &[u16], g: &[u16], aux: &[u64]) {
         part: Part::Column,
     };
     both(Record { variables: v, ..u }, h, g, aux);
+    let mark = Mark::Amended;
+    both(Record { mark, ..u }, h, g, aux);
 }
 
 // Tables shorter than the record says.

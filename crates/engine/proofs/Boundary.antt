@@ -102,8 +102,7 @@ module _ (keys : List Key) (words : List ℕ) (t : Tables) (c : CalledByFile key
   was-read =
       ap₂ (λ (w : List ℕ) (s : Tables). readCall (take (writeCall w s (c .target) .answer / 256) (writeCall w s (c .target) .target)) (c .into)) (record-was keys (c .before) (c .tables) d) (tables-were keys (c .before) (c .tables) d)
       ∙ ap (λ (bytes : List ℕ). readCall bytes (c .into))
-      (front keyBits vs made flat (chosen-holds keyBits (d .degree) (d .cells) vs (d .lent)) (chosen-record-carried keyBits (d .degree) (d .cells) vs (d .lent))
-      (λ into roomy. carried-chosen-demand-2 into roomy keyBits (d .degree) (d .cells) vs (d .lent)) accepted-made (c .target) (c .room))
+      (front (made .built .unit) (made .tables) (flat accepted-made .1) (flat accepted-made .0) (chosen-holds keyBits (d .degree) (d .cells) vs (d .lent) accepted-made .is-sound) (c .target) (c .room))
       ∙ read-left keyBits vs made flat (chosen-holds keyBits (d .degree) (d .cells) vs (d .lent)) (chosen-record-carried keyBits (d .degree) (d .cells) vs (d .lent))
       (λ into roomy. carried-chosen-demand-2 into roomy keyBits (d .degree) (d .cells) vs (d .lent)) accepted-made (passed keys (c .before) (c .tables) d .nowhere) (passed keys (c .before) (c .tables) d .unneeded) (c .into) (c .roomy)
 

@@ -8,3 +8,4 @@ pub mod Damage
 pub mod Carried
 pub mod Demands
 pub mod Loaded
+pub mod Held

@@ -7,11 +7,11 @@ use lib.ListN.{getD, drop}
 use Rattle.vectors.specs.declared.Kind.{Kind}
 use Rattle.vectors.specs.declared.Kind.the-variants.{One, Two}
 use Rattle.record.specs.declared.Record.{Record}
-use Rattle.record.specs.Record.{recordOf}
+use Rattle.record.specs.Record.{markOf, recordOf}
 use Rattle.record.specs.Tables.{Tables}
 use Rattle.block.specs.Bytes.{numberAt, wordsAt}
 use Rattle.block.specs.Block.{blockSize, payloadAt, shortWord, longWord, shortWords, longWords}
-use Rattle.file.specs.Layout.{nAt, pAt, n1At, kAt, cellsAt, triesAt, variablesAt}
+use Rattle.file.specs.Layout.{nAt, pAt, n1At, kAt, cellsAt, triesAt, variablesAt, markAt}
 use Rattle.file.specs.File.{blocksFor, rowsIn, wordsIn, hFirst, gFirst, auxFirst}
 
 -- a variable of two bytes
@@ -27,7 +27,7 @@ kindsFrom (suc p) at file = kindOf (getD file at 0) (getD file (suc at) 0) ∷ k
 unfoldable pub recordIn : List ℕ → Record
 unfolding recordOf numberAt kindsFrom
 recordIn file =
-    recordOf (numberAt 1 nAt file) (numberAt 1 n1At file) (numberAt 2 kAt file) (kindsFrom (numberAt 1 pAt file) variablesAt file) (numberAt 2 cellsAt file) (numberAt 4 triesAt file)
+    recordOf (markOf (numberAt 1 markAt file)) (numberAt 1 nAt file) (numberAt 1 n1At file) (numberAt 2 kAt file) (kindsFrom (numberAt 1 pAt file) variablesAt file) (numberAt 2 cellsAt file) (numberAt 4 triesAt file)
 
 -- so many words of a table, the first block of them being number `first` of the file; m blocks are looked at
 unfoldable pub tableFrom : ℕ → ℕ → ℕ → ℕ → ℕ → List ℕ → List ℕ

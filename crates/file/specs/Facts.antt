@@ -31,7 +31,7 @@ pub record WordsFit (u : Record) (t : Tables) : Type 0 where
   pub g : All (λ (w : ℕ). w < 2 ^ 16) (take (u .cells) (t .g))
   pub aux : All (λ (w : ℕ). w < 2 ^ 64) (take (wordsIn u) (t .aux))
 
--- two records that are the same in all that a file says: the numbers, tries modulo 2^32, the variables, and so the kept inputs
+-- two records that are the same in all that a file says: the numbers, tries modulo 2^32, the variables, the mark, and so the kept inputs
 pub record SameRecord (u v : Record) : Type 0 where
   pub n : u .n ≡ v .n
   pub p : u .p ≡ v .p
@@ -40,6 +40,7 @@ pub record SameRecord (u v : Record) : Type 0 where
   pub cells : u .cells ≡ v .cells
   pub tries : u .tries % 2 ^ 32 ≡ v .tries % 2 ^ 32
   pub variables : kindsIn u ≡ kindsIn v
+  pub mark : u .mark ≡ v .mark
   pub kept : u .kept ≡ v .kept
 
 -- and two units: the tables in their ranges too
@@ -53,7 +54,7 @@ pub record SameUnit (u : Record) (s : Tables) (v : Record) (t : Tables) : Type 0
 
 -- the record that is read: tries modulo 2^32; kept inputs, excess and part marks worked out anew
 abbrev pub carriedRecord : Record → Record
-carriedRecord u = recordOf (u .n) (u .n1) (u .k) (kindsIn u) (u .cells) (u .tries % 2 ^ 32)
+carriedRecord u = recordOf (u .mark) (u .n) (u .n1) (u .k) (kindsIn u) (u .cells) (u .tries % 2 ^ 32)
 
 -- and the tables: the words in their ranges, as 16 and 64 bits hold them
 abbrev pub carriedTables : Record → Tables → Tables

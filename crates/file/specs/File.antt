@@ -6,7 +6,7 @@ use Rattle.vectors.specs.declared.Kind.{Kind}
 use Rattle.vectors.specs.declared.Kind.the-variants.{One, Two}
 use Rattle.vectors.specs.Bounds.{maxVariables}
 use Rattle.record.specs.declared.Record.{Record}
-use Rattle.record.specs.Record.{kindsIn}
+use Rattle.record.specs.Record.{markNumber, kindsIn}
 use Rattle.record.specs.Tables.{Tables}
 use Rattle.block.specs.declared.Opening.{Opening}
 use Rattle.block.specs.Bytes.{littleOf, wordsOf}
@@ -40,6 +40,7 @@ headPayload u =
     ++ littleOf 2 (u .cells)
     ++ littleOf 4 (u .tries)
     ++ padded (2 * maxVariables) (variablesBytes (kindsIn u))
+    ++ littleOf 1 (markNumber (u .mark))
 
 unfoldable pub headOf : Record → List ℕ
 unfolding blockOf headPayload

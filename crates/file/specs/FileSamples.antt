@@ -24,7 +24,7 @@ part i at size = take size (drop (blockSize * i + at) file)
 
 -- that unit with other kept inputs
 abbrev unsound : Record
-unsound = let u = built .built .unit in record { n = u .n; p = u .p; n1 = u .n1; k = u .k; cells = u .cells; kept = 42; tries = u .tries; excess = u .excess; variables = u .variables }
+unsound = let u = built .built .unit in record { n = u .n; p = u .p; n1 = u .n1; k = u .k; cells = u .cells; kept = 42; tries = u .tries; excess = u .excess; variables = u .variables; mark = u .mark }
 
 pub record FileTable : Type 0 where
   pub size : (length file ≡ 2048) × (sizeOf (built .built .unit) ≡ 2048)

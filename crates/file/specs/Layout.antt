@@ -48,6 +48,9 @@ triesAt = 15
 abbrev pub variablesAt : ℕ
 variablesAt = 19
 
+abbrev pub markAt : ℕ
+markAt = 67
+
 -- the first byte that no field has
 abbrev pub freeAt : ℕ
-freeAt = 67
+freeAt = 68

@@ -37,6 +37,11 @@ pub const TRIES_AT: usize = 15;
 
 pub const VARIABLES_AT: usize = 19;
 
+pub const MARK_AT: usize = 67;
+
+// The first byte that no field has.
+pub const FREE_AT: usize = 68;
+
 // The number of the first block of H.
 pub const H_FIRST: usize = 1;
 

@@ -86,6 +86,8 @@ fn head(unit: Record) -> [u8; SIZE]
     b[layout::TRIES_AT + 3] = (unit.tries / 256 / 256 / 256 % 256) as u8;
     let variables = unit.variables;
     put_variables(variables, unit.p, &mut b);
+    let mark = unit.mark;
+    b[layout::MARK_AT] = record::mark_number(mark);
     block::sealed(b)
 }
 

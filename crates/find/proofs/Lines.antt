@@ -5,16 +5,19 @@ use native.Mathlib.Numerals.{add-one}
 use mathlib.Core.Path.{_≡_, refl, sym, ap, ap₂, _∙_}
 use mathlib.Core.Bool.{Bool, true, false, false≢true, _&&_}
 use mathlib.Core.List.{List, [], _∷_, _++_, append-nil, append-assoc, map}
-use borrow.Author.Tests.{eq-eqb, ne-eqb, le-leb, lt-leb, leb-true, lt-ltb, le-ltb}
+use borrow.Author.Tests.{eq-eqb, ne-eqb, le-leb, lt-leb, leb-true, ltb-true, lt-ltb, le-ltb}
 use lib.Dec.{eqb, leb, ltb}
-use lib.ListN.{length, getD, take, drop, set, length-append, length-drop, length-set}
-use lib.Seq.{drop-cons, drop-length, drop-drop, take-all, take-suc-set}
+use lib.ListN.{length, getD, take, drop, set, replicate, length-append, length-drop, length-set, length-map, drop-of-length-le}
+use lib.Seq.{length-take-le, take-at, drop-cons, drop-length, drop-drop, take-all, take-suc-set}
+use borrow.Rule.Slice.PartMut.{midOf, postOf, putMid}
 use Rattle.lists.specs.Members.{every}
 use Rattle.lists.proofs.Tests.{and-true}
 use Rattle.print.specs.Line.{newline}
 use Rattle.print.specs.Print.{maxBytes}
 use Rattle.find.specs.declared.keys.Key.{Key}
 use Rattle.find.specs.Keys.{maxKeys, noKey, keyOf, keysFrom, keysIn, goodKeys, valuesIn, lineLength}
+use Rattle.find.specs.declared.Given.{Given}
+use Rattle.find.specs.Given.{givenOf}
 use Rattle.find.specs.Inner.{ReadAs}
 
 -- ---- how long the first line is
@@ -231,9 +234,68 @@ module _ (text words : List ℕ) where
             size = w .size;
             few = w .few;
             is = with-all text l (ap (every (λ (k : Key). k .good)) all ∙ w .good) (omega (arith, ap length all, w .number, n)) (omega (arith, ap length all, w .number, w .few));
+            none = λ (p : true ≡ false). absurd (false≢true (sym p));
             values = λ _. w .stored ∙ ap (map (λ (k : Key). k .value)) (sym all);
           }
 
+-- a good text has a key
+pub values-some : (text : List ℕ) → goodKeys text ≡ true → 0 < length (valuesIn text)
+unfolding goodKeys
+values-some text g =
+    let a = and-true (leb (length text) maxBytes) _ g in
+    let b = and-true (every (λ (k : Key). k .good) (keysIn text)) _ (a .1) in
+    omega (arith, ltb-true 0 (length (keysIn text)) (and-true (ltb 0 (length (keysIn text))) _ (b .1) .0), length-map (keysIn text) (λ (k : Key). k .value))
+
 -- nothing is read of a text that is not good
 pub read-not : (text words : List ℕ) → length words ≡ maxKeys → false ≡ goodKeys text → ReadAs text false 0 words
-read-not text words s e = record { size = s; few = omega arith; is = e; values = λ (p : false ≡ true). absurd (false≢true p) }
+read-not text words s e = record { size = s; few = omega arith; is = e; none = λ _. refl; values = λ (p : false ≡ true). absurd (false≢true p) }
+
+-- the keys handed on: the words past them emptied
+module _ (text words : List ℕ) (good : Bool) (count : ℕ) (r : ReadAs text good count words) where
+  abbrev given : List ℕ → ℕ → Given
+  given l n = record { good = good; count = n; words = l ++ replicate (maxKeys - n) 0 }
+
+  whole : given (take count words) count ≡ givenOf text
+  unfolding givenOf
+  whole = go good refl
+    where
+      sure : good ≡ true → length (valuesIn text) ≡ count
+      sure p = ap length (sym (r .values p)) ∙ length-take-le count words (omega (arith, r .few, r .size))
+
+      go : (q : Bool) → good ≡ q → given (take count words) count ≡ givenOf text
+      go true p = rw (sym (r .is) ∙ p, givenOf) (ap₂ given (r .values p) (sym (sure p)) ∙ ap (λ (b : Bool). record { good = b; count = length (valuesIn text); words = valuesIn text ++ replicate (maxKeys - length (valuesIn text)) 0 }) p)
+      go false p = rw (sym (r .is) ∙ p, givenOf) (ap (λ (n : ℕ). given (take n words) n) (r .none p) ∙ ap (λ (b : Bool). record { good = b; count = 0; words = replicate maxKeys 0 }) p)
+
+  pub given-is : (ys : List ℕ) → ys ≡ replicate (length (midOf count (maxKeys - count) words)) 0
+      → record { good = good; count = count; words = putMid count (maxKeys - count) words ys } ≡ givenOf text
+  given-is ys e = ap (λ (l : List ℕ). record { good = good; count = count; words = take count words ++ l }) rest ∙ whole
+    where
+      few : length (drop count words) ≡ maxKeys - count
+      few = length-drop count words ∙ ap (λ (n : ℕ). n - count) (r .size)
+
+      rest : ys ++ postOf count (maxKeys - count) words ≡ replicate (maxKeys - count) 0
+      rest =
+          ap₂ (λ (a b : List ℕ). a ++ b) (e ∙ ap (λ (n : ℕ). replicate n 0) (length-take-le (maxKeys - count) (drop count words) (omega (arith, few))))
+          (drop-of-length-le (drop count words) {i = maxKeys - count} (omega (arith, few)))
+          ∙ append-nil (replicate (maxKeys - count) 0)
+
+-- what the keys handed on say of a text
+module _ (text : List ℕ) (r : Given) (e : r ≡ givenOf text) where
+  pub given-good : {b : Bool} → r .good ≡ b → goodKeys text ≡ b
+  unfolding givenOf
+  given-good {b} p = go (goodKeys text) refl
+    where
+      go : (q : Bool) → goodKeys text ≡ q → goodKeys text ≡ b
+      go true q = q ∙ sym (ap (λ (x : Given). x .good) e ∙ rw (q, givenOf)) ∙ p
+      go false q = q ∙ sym (ap (λ (x : Given). x .good) e ∙ rw (q, givenOf)) ∙ p
+
+  module _ (g : goodKeys text ≡ true) where
+    is : r ≡ record { good = true; count = length (valuesIn text); words = valuesIn text ++ replicate (maxKeys - length (valuesIn text)) 0 }
+    unfolding givenOf
+    is = e ∙ rw (g, givenOf)
+
+    pub given-fits : r .count ≤ length (r .words)
+    given-fits = rw is (omega (arith, length-append (valuesIn text) (replicate (maxKeys - length (valuesIn text)) 0)))
+
+    pub given-values : take (r .count) (r .words) ≡ valuesIn text
+    given-values = rw is (take-at (valuesIn text) (replicate (maxKeys - length (valuesIn text)) 0) (length (valuesIn text)) refl)

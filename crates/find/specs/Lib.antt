@@ -1,4 +1,5 @@
 pub mod Keys
+pub mod Given
 pub mod Find
 pub mod FindSamples
 pub mod Inner

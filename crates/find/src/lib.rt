@@ -7,6 +7,7 @@ ghost use Rattle.lookup.specs.Lookup.{lookupOf};
 ghost use Rattle.many.specs.Lookups.{firstRefused};
 ghost use Rattle.print.specs.Print.{printed, fitted};
 ghost use Rattle.find.specs.Keys.{maxKeys};
+ghost use Rattle.find.specs.Given.{givenOf};
 ghost use Rattle.find.specs.Find.{indicesOf, findText};
 use many::Many;
 use unit::Record;
@@ -16,7 +17,7 @@ mod keys;
 pub use keys::line_length;
 
 // The keys of the longest call.
-const MAX_KEYS: usize = 1024;
+pub const MAX_KEYS: usize = 1024;
 
 // A word for each key of the longest call, of 64 and of 16 bits.
 fn room() -> [u64; MAX_KEYS]
@@ -40,6 +41,27 @@ fn widen(narrow: &[u16], words: &mut [u64])
     while i < narrow.len() {
         words[i] = narrow[i] as u64;
         i += 1;
+    }
+}
+
+// The keys of a text: whether it is good, how many there are, and a word for each, 0 past them. There are none where it is not good.
+pub struct Given {
+    pub good: bool,
+    pub count: usize,
+    pub words: [u64; MAX_KEYS],
+}
+
+pub fn keys_in(text: &[u8]) -> Given
+    ensures { λ r. ⌜ r ≡ givenOf (now (text .entry)) ⌝ }
+{
+    let mut words = room();
+    let said = keys::read(text, &mut words);
+    let count = said.count;
+    lists::clear64(&mut words[count..]);
+    Given {
+        good: said.good,
+        count,
+        words,
     }
 }
 

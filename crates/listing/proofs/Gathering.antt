@@ -13,7 +13,7 @@ use Rattle.record.specs.declared.Record.{Record}
 use Rattle.record.specs.Tables.{Tables}
 use Rattle.recover.specs.declared.Recovered.{Recovered}
 use Rattle.recover.specs.Recover.{recoverOf}
-use Rattle.listing.specs.Listing.{allGiven, vectorsFrom}
+use Rattle.recover.specs.Every.{allGiven, vectorsFrom}
 
 module _ (u : Record) (t : Tables) where
   -- the first i of m words are n and the vectors of the numbers below i

@@ -5,8 +5,9 @@ ghost use mathlib.Core.List.{_∷_};
 ghost use Prim.Native.Nat.{_-_, _<_};
 ghost use lib.ListN.{length};
 ghost use Rattle.record.specs.Tables.{lent};
+ghost use Rattle.recover.specs.Every.{allGiven, vectorsFrom};
 ghost use Rattle.print.specs.Print.{printed, fitted};
-ghost use Rattle.listing.specs.Listing.{allGiven, vectorsFrom, listText};
+ghost use Rattle.listing.specs.Listing.{listText};
 use unit::Record;
 
 // Writes n and then the vectors of the numbers from 1 on, as many as there is room for; answers whether none was refused.

@@ -14,9 +14,10 @@ use Rattle.vectors.specs.Bounds.{maxVariables}
 use Rattle.vectors.specs.Variable.{kindsOf}
 use Rattle.span.specs.Span.{kept}
 use Rattle.span.specs.Within.{inputsIn, within, kindsWithin}
-use Rattle.record.specs.Record.{variablesOf, excessOf}
+use Rattle.record.specs.declared.Mark.{Mark}
+use Rattle.record.specs.Record.{markOf, variablesOf, excessOf}
 use Rattle.block.specs.Bytes.{numberAt}
-use Rattle.file.specs.Layout.{nAt, pAt, n1At, kAt, cellsAt, triesAt, variablesAt}
+use Rattle.file.specs.Layout.{nAt, pAt, n1At, kAt, cellsAt, triesAt, variablesAt, markAt}
 use Rattle.file.specs.Decode.{kindOf, kindsFrom}
 use Rattle.load.specs.Inner.Said.{kindsSaid, saidIn}
 
@@ -58,15 +59,16 @@ module _ (file : List ℕ) (vs : List Variable) where
 
 -- ---- the record
 
-pub said-made : (file : List ℕ) (vs marks : List Variable) (n p n1 k cells tries mask : ℕ) (excess : ℤ) → kindsOf vs ≡ kindsFrom maxVariables variablesAt file
+pub said-made : (file : List ℕ) (vs marks : List Variable) (n p n1 k cells tries mask number : ℕ) (excess : ℤ) (mark : Mark) → kindsOf vs ≡ kindsFrom maxVariables variablesAt file
     → n ≡ numberAt 1 nAt file → p ≡ numberAt 1 pAt file → n1 ≡ numberAt 1 n1At file → k ≡ numberAt 2 kAt file → cells ≡ numberAt 2 cellsAt file → tries ≡ numberAt 4 triesAt file
-    → mask ≡ kept (inputsIn n) (kindsWithin n p vs) → excess ≡ excessOf p k → marks ≡ variablesOf n1 (kindsOf (take p vs))
-    → record { n = n; p = p; n1 = n1; k = k; cells = cells; kept = mask; tries = tries; excess = excess; variables = marks } ≡ saidIn file
+    → mask ≡ kept (inputsIn n) (kindsWithin n p vs) → excess ≡ excessOf p k → marks ≡ variablesOf n1 (kindsOf (take p vs)) → number ≡ numberAt 1 markAt file → mark ≡ markOf number
+    → record { n = n; p = p; n1 = n1; k = k; cells = cells; kept = mask; tries = tries; excess = excess; variables = marks; mark = mark } ≡ saidIn file
 unfolding saidIn
-said-made file vs marks n p n1 k cells tries mask excess ks en ep e1 ek ec et em ex ev =
+said-made file vs marks n p n1 k cells tries mask number excess mark ks en ep e1 ek ec et em ex ev eb er =
     let q : kindsOf (take p vs) ≡ kindsSaid file = map-take (λ (v : Variable). v .kind) p vs ∙ ap₂ take ep ks in
     let m : mask ≡ kept (inputsIn (numberAt 1 nAt file)) (map (within (inputsIn (numberAt 1 nAt file))) (kindsSaid file)) =
     em ∙ ap₂ (λ (i : ℕ) (l : List Kind). kept (inputsIn i) (map (within (inputsIn i)) l)) en q in
     let x : excess ≡ excessOf (numberAt 1 pAt file) (numberAt 2 kAt file) = ex ∙ ap₂ excessOf ep ek in
     let v : marks ≡ variablesOf (numberAt 1 n1At file) (kindsSaid file) = ev ∙ ap₂ variablesOf e1 q in
+    let r : mark ≡ markOf (numberAt 1 markAt file) = er ∙ ap markOf eb in
     cc

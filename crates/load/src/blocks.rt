@@ -10,7 +10,7 @@ ghost use Rattle.file.specs.File.{rowsIn, wordsIn};
 ghost use Rattle.file.specs.Plan.{planOf};
 ghost use Rattle.file.specs.Read.{rightChecks, isFile};
 ghost use Rattle.load.specs.Inner.Said.{saidIn};
-ghost use Rattle.load.specs.Inner.Laid.{tableLaid, headLaid};
+ghost use Rattle.load.specs.Inner.Laid.{tableLaid, hasLetters, headLaid};
 ghost use Rattle.load.specs.Inner.Whole.{Whole};
 use block::CHECK_AT;
 use block::Opening;
@@ -70,19 +70,11 @@ fn table_laid(part: Part, file: &[u8]) -> bool
     true
 }
 
-// Whether the first block is a head with the letters, and has no byte past p variables but 0.
-fn head_laid(p: usize, file: &[u8]) -> bool
-    requires { ⌜ (p ≤ maxVariables) × (blockSize ≤ length (now file)) ⌝ }
-    ensures { λ r. ⌜ r ≡ headLaid p (now (file .entry)) ⌝ }
+// Whether the four letters stand in the head.
+fn has_letters(file: &[u8]) -> bool
+    requires { ⌜ blockSize ≤ length (now file) ⌝ }
+    ensures { λ r. ⌜ r ≡ hasLetters (now (file .entry)) ⌝ }
 {
-    let opening = Opening {
-        kind: layout::HEAD,
-        version: layout::VERSION,
-        number: 0,
-    };
-    if !block::laid(opening, layout::VARIABLES_AT + 2 * p, &file[..SIZE]) {
-        return false;
-    }
     if file[layout::LETTERS_AT] != layout::LETTERS[0] {
         return false;
     }
@@ -93,6 +85,28 @@ fn head_laid(p: usize, file: &[u8]) -> bool
         return false;
     }
     file[layout::LETTERS_AT + 3] == layout::LETTERS[3]
+}
+
+// Whether the first block is a head with the letters and a mark, and has no other byte past p variables but 0.
+fn head_laid(p: usize, file: &[u8]) -> bool
+    requires { ⌜ (p ≤ maxVariables) × (blockSize ≤ length (now file)) ⌝ }
+    ensures { λ r. ⌜ r ≡ headLaid p (now (file .entry)) ⌝ }
+{
+    let opening = Opening {
+        kind: layout::HEAD,
+        version: layout::VERSION,
+        number: 0,
+    };
+    if !block::laid(opening, layout::FREE_AT, &file[..SIZE]) {
+        return false;
+    }
+    if !has_letters(file) {
+        return false;
+    }
+    if !block::blank(&file[..layout::MARK_AT], layout::VARIABLES_AT + 2 * p) {
+        return false;
+    }
+    file[layout::MARK_AT] <= 1
 }
 
 // Where the tables of a unit lie.

@@ -60,6 +60,7 @@ pub(crate) fn said(file: &[u8]) -> Record
     let kept = span::kept_inputs(n, v, p);
     let excess = record::excess(p as u32, k as u32);
     let variables = record::marked(v, p, n1);
+    let mark = record::mark_of(block::number(file, layout::MARK_AT, 1));
     Record {
         n,
         p,
@@ -70,5 +71,6 @@ pub(crate) fn said(file: &[u8]) -> Record
         tries,
         excess,
         variables,
+        mark,
     }
 }

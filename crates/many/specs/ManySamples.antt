@@ -6,7 +6,7 @@ use lib.IntN.{pos}
 use lib.ListN.{replicate}
 use Rattle.vectors.specs.declared.Kind.the-variants.{One, Two}
 use Rattle.record.specs.declared.Record.{Record}
-use Rattle.record.specs.Record.{variablesOf}
+use Rattle.record.specs.Record.{markBuilt, variablesOf}
 use Rattle.record.specs.Tables.{Tables, lent}
 use Rattle.lookup.specs.Lookup.{lookupOf}
 use Rattle.many.specs.Lookups.{Left, refusedAt, left, lookupMany}
@@ -15,7 +15,7 @@ use Rattle.many.specs.Image.{imageOf}
 -- the unit, with so many vectors by its record
 abbrev unit : ℕ → Record
 unit k =
-    record { n = 6; p = 3; n1 = 2; k = k; cells = 7; kept = 41; tries = 15; excess = pos 0; variables = variablesOf 2 (One 2 ∷ One 3 ∷ Two 4 5 ∷ []) }
+    record { n = 6; p = 3; n1 = 2; k = k; cells = 7; kept = 41; tries = 15; excess = pos 0; variables = variablesOf 2 (One 2 ∷ One 3 ∷ Two 4 5 ∷ []); mark = markBuilt }
 
 abbrev tables : Tables
 tables = lent (0 ∷ 2 ∷ 4 ∷ 5 ∷ []) (5 ∷ 1 ∷ 7 ∷ 2 ∷ 4 ∷ 3 ∷ 6 ∷ []) (0 ∷ 0 ∷ 1 ∷ 2 ∷ 10 ∷ 16 ∷ 23 ∷ 25 ∷ [])

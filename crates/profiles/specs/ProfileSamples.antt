@@ -8,6 +8,7 @@ use lib.ListN.{replicate}
 use Rattle.vectors.specs.Bounds.{maxVariables}
 use Rattle.vectors.specs.Variable.{blankVariable}
 use Rattle.record.specs.declared.Record.{Record}
+use Rattle.record.specs.Record.{markBuilt}
 use Rattle.record.specs.Tables.{Tables, lent}
 use Rattle.lookup.specs.Lookup.{found, notFound}
 use Rattle.profiles.specs.declared.Key.{Key}
@@ -28,7 +29,7 @@ today = red 9815
 
 -- a unit of two keys, and no tables
 abbrev unit : Record
-unit = record { n = keyBits; p = 1; n1 = 1; k = 2; cells = 2; kept = 0; tries = 3; excess = pos 0; variables = replicate maxVariables blankVariable }
+unit = record { n = keyBits; p = 1; n1 = 1; k = 2; cells = 2; kept = 0; tries = 3; excess = pos 0; variables = replicate maxVariables blankVariable; mark = markBuilt }
 
 abbrev none : Tables
 none = lent [] [] []

@@ -5,7 +5,7 @@ ghost use lib.ListN.{take};
 ghost use Rattle.vectors.specs.Bounds.{maxInputs};
 ghost use Rattle.vectors.specs.Variable.{kindsOf};
 ghost use Rattle.record.specs.Tables.{lent, indexIn};
-ghost use Rattle.record.specs.Record.{blankRecord, variablesOf, log2Up, excessOf};
+ghost use Rattle.record.specs.Record.{markNumber, markOf, blankRecord, variablesOf, log2Up, excessOf};
 ghost use Rattle.record.specs.Formed.{inBounds, rightKept, longEnough, framedBy, wellFormed, rightRecord, sound as Formed·sound};
 ghost use Rattle.record.specs.Inner.Formed.{InBounds};
 ghost use Rattle.record.specs.Inner.Parts.{partAt};
@@ -15,6 +15,12 @@ use vectors::MAX_VARIABLES;
 use vectors::MAX_VECTORS;
 use vectors::Part;
 use vectors::Variable;
+
+// Whether a build left the unit, or vectors were added to it since.
+pub enum Mark {
+    Built,
+    Amended,
+}
 
 // What a build leaves beside the tables; cells is L. The part marks in it are set from n1, and nothing reads them.
 pub struct Record {
@@ -27,6 +33,28 @@ pub struct Record {
     pub tries: u64,
     pub excess: i64,
     pub variables: [Variable; MAX_VARIABLES],
+    pub mark: Mark,
+}
+
+// A mark as a number, in a file and in the record for C.
+pub fn mark_number(mark: Mark) -> u8
+    ensures { λ r. ⌜ r ≡ markNumber mark ⌝ }
+{
+    match mark {
+        Mark::Built => 0,
+        Mark::Amended => 1,
+    }
+}
+
+// The mark that a number says.
+pub fn mark_of(number: u64) -> Mark
+    ensures { λ r. ⌜ r ≡ markOf number ⌝ }
+{
+    if number == 0 {
+        Mark::Built
+    } else {
+        Mark::Amended
+    }
 }
 
 // The record beside a refusal.
@@ -44,6 +72,7 @@ pub fn blank() -> Record
         tries: 0,
         excess: 0,
         variables,
+        mark: Mark::Built,
     }
 }
 

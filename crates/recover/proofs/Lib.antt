@@ -1,2 +1,6 @@
+pub mod Charts
 pub mod Recovery
 pub mod Exact
+pub mod Firsts
+pub mod Every
+pub mod Giving

@@ -3,30 +3,34 @@ use Prim.Native.Nat.{ℕ, zero, suc, _+_, _-_, _^_, _≤_, _<_}
 use native.Mathlib.Omega.{arith}
 use mathlib.Core.Path.{_≡_, refl, sym, ap, _∙_}
 use mathlib.Core.Bool.{Bool, true, false, _&&_}
-use borrow.Author.Tests.{le-leb, lt-leb, leb-true, ltb-true}
+use borrow.Author.Tests.{le-leb, lt-leb}
 use lib.Dec.{ltb}
-use lib.ListN.{length, getD}
+use lib.ListN.{length, getD, take}
+use lib.Seq.{getD-take, length-take-le}
 use Rattle.lists.proofs.Tests.{and-true}
-use Rattle.vectors.specs.Variable.{columnOf}
-use Rattle.span.specs.Span.{kept, soundOf}
+use Rattle.lists.proofs.Finding.Equals.{FirstEqual, first-equal}
+use Rattle.vectors.specs.Variable.{rowOf, columnOf}
 use Rattle.vectors.specs.Word.{wordOf}
+use Rattle.vectors.proofs.Words.Laws.{word-row}
+use Rattle.span.specs.Span.{firstDependent, soundOf}
 use Rattle.span.specs.declared.Found.{Found}
 use Rattle.span.specs.Fixed as span
 use Rattle.span.specs.Fixed.{vectorOf, foundBy}
-use Rattle.vectors.proofs.Variables.Numbers.{kinds-length}
 use Rattle.span.proofs.Labels.Edges.{all-edges}
 use Rattle.span.proofs.Fixed.{Fixed, vector-is, vector-one, sound-facts, found-fixed, found-nothing}
 use Rattle.record.specs.declared.Record.{Record}
 use Rattle.recover.specs.declared.Recovered.{Recovered}
-use Rattle.vectors.specs.Bounds.{maxVariables, outside}
+use Rattle.vectors.specs.Bounds.{outside}
 use Rattle.record.specs.Record.{kindsIn}
-use Rattle.record.specs.Tables.{Tables}
+use Rattle.record.specs.Tables.{Tables, indexIn}
 use Rattle.record.specs.Formed.{wellFormed, sound}
-use Rattle.record.specs.Leads.{wordIn}
+use Rattle.record.specs.Leads.{wordIn, cellIn}
 use Rattle.record.specs.Inner.Formed.{WellFormed}
-use Rattle.recover.specs.Inner.Fixed.{answered, vectorIn}
 use Rattle.record.proofs.Formed.{well-formed-facts}
-use Rattle.recover.specs.Recover.{recovered, notRecovered, firstCell, rowIn, fixes, vectorAt, fromCell, recoverOf}
+use Rattle.record.proofs.Soundness.{Sound, sound-says}
+use Rattle.recover.specs.Inner.Fixed.{answered, vectorIn}
+use Rattle.recover.proofs.Charts.{Charted, charted}
+use Rattle.recover.specs.Recover.{recovered, notRecovered, firstCell, rowIn, inChart, fixes, vectorAt, fromCell, recoverOf}
 
 -- ---- the cell
 
@@ -94,26 +98,28 @@ module _ (u : Record) (t : Tables) (i : ℕ) where
 
 -- ---- the answer is one vector
 
--- v has the word AUX[i], its column is that of the first cell holding i in the row of that word, and no other vector below 2^n has both
+-- v has the word AUX[i] and leads to the first cell that holds i, and no other vector of n bits does both
 pub record OneVector (u : Record) (t : Tables) (i v : ℕ) : Type 0 where
-  pub cell : ℕ
-  pub first : firstCell u t i ≡ suc cell
-  pub placed : getD (t .h) (rowIn u (getD (t .aux) i 0)) 0 ≤ cell
+  pub is-sound : sound u t ≡ true
+  pub answer : recoverOf u t i ≡ recovered v
   pub below : v < 2 ^ u .n
   pub word-is : wordIn u v ≡ getD (t .aux) i 0
-  pub column-is : columnOf (u .n1) (kindsIn u) v ≡ cell - getD (t .h) (rowIn u (getD (t .aux) i 0)) 0
-  pub only : (x : ℕ) → x < 2 ^ u .n → wordIn u x ≡ getD (t .aux) i 0
-      → columnOf (u .n1) (kindsIn u) x ≡ cell - getD (t .h) (rowIn u (getD (t .aux) i 0)) 0 → x ≡ v
+  pub row-is : rowOf (u .n1) (kindsIn u) v ≡ rowIn u (getD (t .aux) i 0)
+  pub first : firstCell u t i ≡ suc (cellIn u t v)
+  pub column-is : columnOf (u .n1) (kindsIn u) v ≡ firstCell u t i - 1 - getD (t .h) (rowIn u (getD (t .aux) i 0)) 0
+  pub cell-in : cellIn u t v < u .cells
+  pub holds : indexIn (getD (t .g) (cellIn u t v) 0) ≡ i
+  pub only : (x : ℕ) → x < 2 ^ u .n → wordIn u x ≡ getD (t .aux) i 0 → cellIn u t x ≡ cellIn u t v → x ≡ v
 
-module _ (u : Record) (t : Tables) (i : ℕ) (size : length (u .variables) ≡ maxVariables) where
+module _ (u : Record) (t : Tables) (i : ℕ) where
   abbrev word : ℕ
   word = getD (t .aux) i 0
 
-  abbrev column : ℕ → ℕ
-  column cell = cell - getD (t .h) (rowIn u word) 0
+  abbrev displacement : ℕ
+  displacement = getD (t .h) (rowIn u word) 0
 
   abbrev vector : ℕ → ℕ
-  vector cell = vectorOf (u .n) (u .n1) (kindsIn u) (u .kept) word (column cell)
+  vector cell = vectorOf (u .n) (u .n1) (kindsIn u) (u .kept) word (cell - displacement)
 
   vector-answer : (cell : ℕ) → fixes u t word cell ≡ true → vectorAt u t word cell ≡ recovered (vector cell)
   unfolding vectorAt
@@ -127,34 +133,66 @@ module _ (u : Record) (t : Tables) (i : ℕ) (size : length (u .variables) ≡ m
   unfolding fromCell
   cell-vector cell = refl
 
-  vector-one-of : WellFormed u t → (cell : ℕ) → firstCell u t i ≡ suc cell → fixes u t word cell ≡ true → OneVector u t i (vector cell)
-  unfolding sound
-  vector-one-of w cell e f =
-      let p : length (kindsIn u) ≡ u .p = kinds-length (u .variables) (u .p) (omega (arith, w .bounds .few)) in
-      let r : u .n1 ≤ length (kindsIn u) = omega (arith, w .bounds .rows-in) in
-      let s = and-true _ _ f in
-      let l = and-true _ _ (s .0) in
-      let c = and-true _ _ (l .0) in
-      let k = sound-facts (u .n) (kindsIn u) (u .kept) (and-true (wellFormed u t) (soundOf (u .n) (kindsIn u) (u .kept)) (s .1) .1) in
-      let hw : word < 2 ^ (u .n1 + u .n - length (kindsIn u)) = rw p (ltb-true _ _ (l .1)) in
-      let hc : column cell < 2 ^ (length (kindsIn u) - u .n1) = rw p (ltb-true _ _ (c .1)) in
-      let v : vector cell ≡ vectorOf (u .n) (u .n1) (kindsIn u) (kept (u .n) (kindsIn u)) word (column cell) =
-      ap (λ (m : ℕ). vectorOf (u .n) (u .n1) (kindsIn u) m word (column cell)) (k .1) in
-      let g : Fixed (u .n) (u .n1) (kindsIn u) word (column cell) (vector cell) =
-      rw v (vector-is (u .n) (u .n1) (kindsIn u) word (column cell) (all-edges (u .n) (kindsIn u) (w .inputs .right)) (k .0) r hw hc) in
-      record {
-        cell = cell;
-        first = e;
-        placed = leb-true _ _ (c .0);
-        below = g .below;
-        word-is = ap (λ (m : ℕ). wordOf (u .n) (u .n1) (kindsIn u) m (vector cell)) (k .1) ∙ g .word-is;
-        column-is = g .column-is;
-        only = λ x b q h.
-            sym
-            (v
-            ∙ vector-one (u .n) (u .n1) (kindsIn u) word (column cell) x r
-            (record { below = b; word-is = ap (λ (m : ℕ). wordOf (u .n) (u .n1) (kindsIn u) m x) (sym (k .1)) ∙ q; column-is = h }));
-      }
+  module _ (w : WellFormed u t) (cell : ℕ) (e : firstCell u t i ≡ suc cell) (f : fixes u t word cell ≡ true) where
+    chart : (inChart u (t .h) word cell ≡ true) × (sound u t ≡ true)
+    chart = and-true (inChart u (t .h) word cell) (sound u t) f
+
+    S : Sound u t
+    S = sound-says u t (chart .1)
+
+    C : Charted u (t .h) word cell
+    C = charted u (t .h) word cell (chart .0)
+
+    independent : firstDependent (kindsIn u) ≡ 0
+    unfolding sound
+    independent = sound-facts (u .n) (kindsIn u) (u .kept) (and-true (wellFormed u t) (soundOf (u .n) (kindsIn u) (u .kept)) (chart .1) .1) .0
+
+    -- the vector has the word and the column
+    fixed : Fixed (u .n) (u .n1) (kindsIn u) word (cell - displacement) (vector cell)
+    fixed =
+        let hw : word < 2 ^ (u .n1 + u .n - length (kindsIn u)) = rw (S .variables) (C .word-in) in
+        let hc : cell - displacement < 2 ^ (length (kindsIn u) - u .n1) = rw (S .variables) (C .column-in) in
+        rw (S .kept-is) (vector-is (u .n) (u .n1) (kindsIn u) word (cell - displacement) (all-edges (u .n) (kindsIn u) (w .inputs .right)) independent (S .rows-in) hw hc)
+
+    has-word : wordIn u (vector cell) ≡ word
+    has-word = ap (λ (m : ℕ). wordOf (u .n) (u .n1) (kindsIn u) m (vector cell)) (S .kept-is) ∙ fixed .word-is
+
+    -- the row of a vector that has the word
+    row-of : (x : ℕ) → wordIn u x ≡ word → rowOf (u .n1) (kindsIn u) x ≡ rowIn u word
+    row-of x q = sym (word-row (u .n) (u .n1) (kindsIn u) (u .kept) x (S .rows-in)) ∙ ap (rowIn u) q
+
+    -- the cell of a vector that has the word
+    cell-of : (x : ℕ) → wordIn u x ≡ word → cellIn u t x ≡ displacement + columnOf (u .n1) (kindsIn u) x
+    cell-of x q = ap (λ (r : ℕ). getD (t .h) r 0 + columnOf (u .n1) (kindsIn u) x) (row-of x q)
+
+    cell-is : cellIn u t (vector cell) ≡ cell
+    cell-is = omega (arith, cell-of (vector cell) has-word, fixed .column-is, C .placed)
+
+    held : FirstEqual (take (u .cells) (t .g)) i cell
+    held = first-equal (take (u .cells) (t .g)) i cell e
+
+    within : cell < u .cells
+    within = rw (length-take-le (u .cells) (t .g) (S .cells-held)) at (held .below)
+
+    vector-one-of : recoverOf u t i ≡ recovered (vector cell) → OneVector u t i (vector cell)
+    vector-one-of a =
+        record {
+          is-sound = chart .1;
+          answer = a;
+          below = fixed .below;
+          word-is = has-word;
+          row-is = row-of (vector cell) has-word;
+          first = e ∙ ap suc (sym cell-is);
+          column-is = omega (arith, fixed .column-is, e);
+          cell-in = rw cell-is within;
+          holds = rw cell-is (sym (getD-take (u .cells) (t .g) cell 0 within) ∙ held .equal);
+          only = λ x b q h.
+              let c : columnOf (u .n1) (kindsIn u) x ≡ cell - displacement = omega (arith, cell-of x q, h, cell-is) in
+              sym
+              (ap (λ (m : ℕ). vectorOf (u .n) (u .n1) (kindsIn u) m word (cell - displacement)) (S .kept-is)
+              ∙ vector-one (u .n) (u .n1) (kindsIn u) word (cell - displacement) x (S .rows-in)
+              (record { below = b; word-is = ap (λ (m : ℕ). wordOf (u .n) (u .n1) (kindsIn u) m x) (sym (S .kept-is)) ∙ q; column-is = c }));
+        }
 
   -- where recovery refuses nothing, its vector is the one vector that the cell and the word fix
   pub recovered-one : recoverOf u t i .refusal ≡ 0 → OneVector u t i (recoverOf u t i .vector)
@@ -166,7 +204,8 @@ module _ (u : Record) (t : Tables) (i : ℕ) (size : length (u .variables) ≡ m
       fixing : WellFormed u t → (cell : ℕ) → firstCell u t i ≡ suc cell → vectorAt u t word cell ≡ recoverOf u t i → (b : Bool) → fixes u t word cell ≡ b
           → OneVector u t i (recoverOf u t i .vector)
       fixing w cell e q true f =
-          rw (sym (ap (λ (r : Recovered). r .vector) (sym (vector-answer cell f) ∙ q))) (vector-one-of w cell e f)
+          let a : recoverOf u t i ≡ recovered (vector cell) = sym q ∙ vector-answer cell f in
+          rw (ap (λ (r : Recovered). r .vector) a) (vector-one-of w cell e f a)
       fixing w cell e q false f = absurd (omega (arith, refused (vector-refused cell f ∙ q)))
 
       celled : WellFormed u t → (m : ℕ) → firstCell u t i ≡ m → fromCell u t word m ≡ recoverOf u t i → OneVector u t i (recoverOf u t i .vector)

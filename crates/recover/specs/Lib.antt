@@ -1,2 +1,3 @@
 pub mod Recover
+pub mod Every
 pub mod Inner

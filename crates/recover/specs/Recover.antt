@@ -1,6 +1,7 @@
 -- The vector of an index.
 use Prim.Native.Nat.{ℕ, zero, suc, _+_, _-_, _%_, _^_}
 use mathlib.Core.Bool.{Bool, true, false, _&&_}
+use mathlib.Core.List.{List}
 use lib.Dec.{eqb, leb, ltb}
 use lib.ListN.{getD, take}
 use Rattle.lists.specs.First.{firstOf}
@@ -19,19 +20,27 @@ recovered v = record { refusal = 0; place = 0; vector = v }
 abbrev pub notRecovered : ℕ → Recovered
 notRecovered number = record { refusal = number; place = 0; vector = 0 }
 
--- SCOPE 10.2: the number from 1 of the first cell below L that holds i; 0 for none
+-- SCOPE 10.2: the number from 1 of the first of the cells that holds i; 0 for none
+abbrev pub firstHolding : List ℕ → ℕ → ℕ
+firstHolding cells i = firstOf (λ before w. eqb (indexIn w) i) cells
+
+-- SCOPE 10.2: of the cells below L
 abbrev pub firstCell : Record → Tables → ℕ → ℕ
-firstCell u t i = firstOf (λ before w. eqb (indexIn w) i) (take (u .cells) (t .g))
+firstCell u t i = firstHolding (take (u .cells) (t .g)) i
 
 -- SCOPE 10.2: the row that a word of AUX has in its lowest n1 bits
 abbrev pub rowIn : Record → ℕ → ℕ
 rowIn u word = word % 2 ^ u .n1
 
--- SCOPE 10.3: the column is one of the columns, the word has no bit too many, and the unit is sound
+-- SCOPE 10.3: the column is one of the columns, and the word has no bit too many
+abbrev pub inChart : Record → List ℕ → ℕ → ℕ → Bool
+inChart u h word cell =
+    let d = getD h (rowIn u word) 0 in
+    leb d cell && ltb (cell - d) (2 ^ (u .p - u .n1)) && ltb word (2 ^ (u .n1 + u .n - u .p))
+
+-- SCOPE 10.3: and the unit is sound
 abbrev pub fixes : Record → Tables → ℕ → ℕ → Bool
-fixes u t word cell =
-    let d = getD (t .h) (rowIn u word) 0 in
-    leb d cell && ltb (cell - d) (2 ^ (u .p - u .n1)) && ltb word (2 ^ (u .n1 + u .n - u .p)) && sound u t
+fixes u t word cell = inChart u (t .h) word cell && sound u t
 
 -- SCOPE 10.2, 10.3: the one vector that the word and the column fix, or 14
 unfoldable pub vectorAt : Record → Tables → ℕ → ℕ → Recovered

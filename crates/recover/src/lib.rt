@@ -1,18 +1,21 @@
-// The vector of an index: its cell is looked for in G, and its row, column and kept inputs fix it.
+// The vector of an index: its cell is looked for in G, and its row, column and kept inputs fix it. Whether every index has one: in one pass over G and
+// one over AUX.
 ghost use mathlib.Core.Path.{_≡_};
 ghost use mathlib.Core.Bool.{true};
-ghost use Prim.Native.Nat.{_≤_};
-ghost use lib.Dec.{eqb};
-ghost use lib.ListN.{getD};
-ghost use Rattle.lists.specs.First.{firstOf};
-ghost use Rattle.record.specs.Tables.{lent, indexIn};
+ghost use Prim.Native.Nat.{_^_, _≤_};
+ghost use lib.ListN.{length, getD};
+ghost use Rattle.vectors.specs.Bounds.{maxCells, maxWords};
+ghost use Rattle.record.specs.Tables.{lent};
 ghost use Rattle.record.specs.Formed.{wellFormed};
 ghost use Rattle.record.specs.Inner.Formed.{InBounds, RightInputs};
 ghost use Rattle.recover.specs.Recover as spec;
-ghost use Rattle.recover.specs.Recover.{fromCell, firstCell, recoverOf};
+ghost use Rattle.recover.specs.Recover.{fromCell, firstHolding, firstCell, inChart, recoverOf};
+ghost use Rattle.recover.specs.Every as every;
+ghost use Rattle.recover.specs.Every.{firstsFrom, firstsIn};
 ghost use Rattle.recover.specs.Inner.Fixed.{vectorIn};
 use record::Record;
 use span::Found;
+use vectors::MAX_WORDS;
 
 // The refusal's number and its place, 0 and 0 where the call is accepted; the vector, 0 beside a refusal.
 pub struct Recovered {
@@ -43,7 +46,7 @@ fn with_refusal(refusal: u8) -> Recovered
 
 // The number from 1 of the first cell that holds i; 0 for none.
 fn first_cell(g: &[u16], i: usize) -> usize
-    ensures { λ r. ⌜ r ≡ firstOf (λ before w. eqb (indexIn w) i) (now (g .entry)) ⌝ }
+    ensures { λ r. ⌜ r ≡ firstHolding (now (g .entry)) i ⌝ }
 {
     let mut c = 0;
     while c < g.len() {
@@ -101,4 +104,68 @@ pub fn recover(unit: Record, h: &[u16], g: &[u16], aux: &[u64], i: usize) -> Rec
         return with_refusal(15);
     }
     numbered(unit, h, g, aux, i)
+}
+
+// The number from 1 of the first cell that holds each index, 0 for none. The cells are passed from the last to the first, so that the first is kept.
+fn first_cells(g: &[u16], firsts: &mut [u16; MAX_WORDS])
+    requires { ⌜ length (now g) ≤ maxCells ⌝ }
+    ensures { λ _. ⌜ now (firsts .exit) ≡ firstsFrom (now (g .entry)) 0 maxWords ⌝ }
+{
+    *firsts = [0; MAX_WORDS];
+    let mut c = g.len();
+    while 0 < c {
+        let number = c as u16;
+        c -= 1;
+        let i = record::index(g[c]);
+        if i < MAX_WORDS {
+            firsts[i] = number;
+        }
+    }
+}
+
+// Whether the cell is in one of the columns of the row that the word has, and the word has no bit too many.
+fn in_chart(unit: Record, h: &[u16], word: u64, cell: usize) -> bool
+    requires bounds { ⌜ InBounds unit ⌝ }
+    requires rows { ⌜ 2 ^ unit .n1 ≤ length (now h) ⌝ }
+    ensures { λ r. ⌜ r ≡ inChart unit (now (h .entry)) word cell ⌝ }
+{
+    let row = vectors::low(word, unit.n1 as u64);
+    let d = h[row as usize] as usize;
+    if cell < d {
+        return false;
+    }
+    if vectors::beyond(unit.p - unit.n1, (cell - d) as u64) {
+        return false;
+    }
+    !vectors::beyond(unit.n1 + unit.n - unit.p, word)
+}
+
+// Whether the unit is well formed and recovery gives a vector for every number from 1 to k; where the unit is sound, firsts has the first cell of each
+// index, counted from 1.
+pub fn listed(
+    unit: Record,
+    h: &[u16],
+    g: &[u16],
+    aux: &[u64],
+    firsts: &mut [u16; MAX_WORDS],
+) -> bool
+    ensures { λ r. ⌜ r ≡ every.listed unit (lent (now (h .entry)) (now (g .entry)) (now (aux .entry))) ⌝ }
+    ensures { λ _. ⌜ now (firsts .exit) ≡ firstsIn unit (lent (now (h .entry)) (now (g .entry)) (now (aux .entry))) (now (firsts .entry)) ⌝ }
+{
+    if !record::sound(unit, h, g, aux) {
+        return false;
+    }
+    first_cells(&g[..unit.cells], firsts);
+    let mut i = 1;
+    while i <= unit.k {
+        let number = firsts[i] as usize;
+        if number == 0 {
+            return false;
+        }
+        if !in_chart(unit, h, aux[i], number - 1) {
+            return false;
+        }
+        i += 1;
+    }
+    true
 }

@@ -2,3 +2,4 @@
 pub mod Owned
 pub mod Unfit
 pub mod Settled
+pub mod Single

@@ -17,7 +17,7 @@ use Rattle.rows.specs.Place.{Placing, place}
 use Rattle.rows.specs.Demand.{filled, Ahead, Falling, Once, Smallest, Bounded, triesOf, boundOf, Spread, spread, Columns}
 use Rattle.rows.specs.declared.End.{End}
 use Rattle.rows.specs.declared.End.the-variants.{All, NoFit, Unfit}
-use Rattle.rows.specs.declared.room.Fit.the-variants.{None}
+use Rattle.rows.specs.declared.Fit.the-variants.{None}
 use Rattle.rows.proofs.Fits.Bound.{first-fits}
 use Rattle.rows.proofs.Placing.Open.{open-none}
 use Rattle.rows.proofs.Placing.Turns.{Next, ended, cells-length}

@@ -4,3 +4,4 @@ pub mod Filled
 pub mod Bound
 pub mod Needed
 pub mod Cells
+pub mod Columns

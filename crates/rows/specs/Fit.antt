@@ -5,8 +5,8 @@ use mathlib.Core.List.{List, [], _∷_}
 use lib.Dec.{eqb, ltb}
 use lib.ListN.{length, getD, set}
 use Rattle.rows.specs.Care.{Care}
-use Rattle.rows.specs.declared.room.Fit.{Fit}
-use Rattle.rows.specs.declared.room.Fit.the-variants.{At, None}
+use Rattle.rows.specs.declared.Fit.{Fit}
+use Rattle.rows.specs.declared.Fit.the-variants.{At, None}
 
 -- where a column lies at a displacement: the sum, which never comes round (SCOPE 7.4)
 abbrev pub cellOf : Care → ℕ → ℕ

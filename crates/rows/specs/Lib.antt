@@ -4,4 +4,5 @@ pub mod Place
 pub mod Demand
 pub mod Needed
 pub mod Answer
+pub mod Single
 pub mod Inner

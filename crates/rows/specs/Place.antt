@@ -8,7 +8,7 @@ use Rattle.rows.specs.Care.{Care, inRow, openWeight, heaviest}
 use Rattle.rows.specs.Fit.{firstFit, put}
 use Rattle.rows.specs.declared.End.{End}
 use Rattle.rows.specs.declared.End.the-variants.{All, NoFit}
-use Rattle.rows.specs.declared.room.Fit.the-variants.{At, None}
+use Rattle.rows.specs.declared.Fit.the-variants.{At, None}
 
 -- h: the displacements, a word for each row; g: the cells; tries: for each row placed one more than its displacement, summed (SCOPE 7.6); order: the rows placed, the last first
 pub record State : Type 0 where

@@ -3,6 +3,7 @@ ghost use mathlib.Core.Path.{_≡_};
 ghost use lib.ListN.{drop};
 ghost use Rattle.rows.specs.Answer as spec;
 ghost use Rattle.rows.specs.Answer.{left, placed};
+ghost use Rattle.rows.specs.Single.{singleFit};
 use crate::links::PLACES;
 use crate::links::ROWS;
 use vectors::MAX_CELLS;
@@ -15,6 +16,12 @@ mod sweep;
 
 // The owner's bit is this or 0.
 const OWNER: u16 = 1 << 15;
+
+// First fit of a row: the displacement found; or none, after so many tried, and the least number of cells with which there is one.
+pub enum Fit {
+    At(usize),
+    None(usize, usize),
+}
 
 // Whether all rows are placed; or the row that has no displacement, how many were tried, and the least number of cells with which it would
 // have one after the same earlier rows; or what was lent cannot be placed.
@@ -90,4 +97,26 @@ pub fn place(aux: &mut [u64], h: &mut [u16], g: &mut [u16], owner: u16) -> Place
     let placed = sweep::place_rows(aux, h, g, &mut taken, owner);
     links::unlink(aux);
     placed
+}
+
+// The first fit of one row over the cells as they are lent, with nothing written: each word after the first is a vector of the row, and
+// says MAX_ROWS * column. Words that say more fit nowhere. They are left as they were lent.
+pub fn first_fit(words: &mut [u64], g: &[u16]) -> Fit
+    ensures { λ r. ⌜ r ≡ singleFit (now (words .entry)) (now (g .entry)) ⌝ }
+    ensures { λ _. ⌜ now (words .exit) ≡ now (words .entry) ⌝ }
+{
+    if unfit(words, 1, g.len(), 0) {
+        return Fit::None(0, 0);
+    }
+    if words.len() == 1 {
+        return Fit::At(0);
+    }
+    let mut marks = [0u16; 1];
+    links::link(words, &mut marks);
+    let first = links::head(marks[0], words.len());
+    let mut taken = [0u64; room::TAKEN_WORDS];
+    room::take_cells(g, &mut taken);
+    let fit = room::first_fit(words, g, &taken, first);
+    links::unlink(words);
+    fit
 }

@@ -2,12 +2,14 @@
 ghost use mathlib.Core.Path.{_≡_};
 ghost use mathlib.Core.Bool.{true};
 ghost use Prim.Native.Nat.{ℕ, _+_, _-_, _/_, _^_, _≤_, _<_};
+ghost use lib.Dec.{eqb};
 ghost use lib.ListN.{length, replicate};
 ghost use Rattle.vectors.specs.Bits.{bit};
 ghost use Rattle.vectors.specs.Bounds.{maxCells, maxRows};
 ghost use Rattle.rows.specs.Fit as fits;
 ghost use Rattle.rows.specs.Inner.Chains.{chain, chainOf, Rises, topOf, fitAt};
-ghost use Rattle.rows.specs.Inner.Taken.{takenCells, takenWords, bitIn, Taken, shutRow};
+ghost use Rattle.rows.specs.Inner.Taken.{takenCells, takenWords, bitIn, shutBit, Taken, shutRow};
+use crate::Fit;
 use crate::links::column;
 use crate::links::next;
 use vectors::MAX_CELLS;
@@ -17,12 +19,6 @@ use vectors::MAX_ROWS;
 const TAKEN_CELLS: usize = MAX_CELLS + MAX_ROWS;
 
 pub(crate) const TAKEN_WORDS: usize = TAKEN_CELLS / 64 + 1;
-
-// The displacement found; or none, after so many tried, and the least number of cells with which there is one.
-pub(crate) enum Fit {
-    At(usize),
-    None(usize, usize),
-}
 
 // The largest column of the row whose first vector is first.
 fn top(aux: &[u64], first: usize) -> usize
@@ -131,18 +127,36 @@ pub(crate) fn put_row(
     }
 }
 
+// The bit of a cell with that word.
+fn shut_bit(word: u16) -> u64
+    ensures { λ r. ⌜ r ≡ shutBit (eqb word 0) ⌝ }
+{
+    if word == 0 { 0 } else { 1 }
+}
+
+// The bits of 64 cells from start on.
+fn bits_from(g: &[u16], start: usize) -> u64
+    requires { ⌜ (start ≤ length (now g)) × (length (now g) ≤ maxCells) ⌝ }
+    ensures { λ r. ⌜ ((t : ℕ) → t < 64 → bit r t ≡ shutBit (fits.isFree (now (g .entry)) (start + t))) ⌝ }
+{
+    let mut bits: u64 = 0;
+    let mut i = lists::least(start + 64, g.len());
+    while start < i {
+        i -= 1;
+        bits = bits * 2 + shut_bit(g[i]);
+    }
+    bits
+}
+
 // The bits of the cells, in words that are 0.
 pub(crate) fn take_cells(g: &[u16], taken: &mut [u64; TAKEN_WORDS])
     requires inside { ⌜ length (now g) ≤ maxCells ⌝ }
     requires blank { ⌜ now taken ≡ replicate takenWords 0 ⌝ }
     ensures { λ _. ⌜ Taken (now (g .entry)) (now (taken .exit)) ⌝ }
 {
-    let mut i = 0;
-    while i < g.len() {
-        let c = i;
-        i += 1;
-        if g[c] != 0 {
-            taken[c / 64] = taken[c / 64] | (1u64 << (c % 64));
-        }
+    let mut q = 0;
+    while 64 * q < g.len() {
+        taken[q] = bits_from(g, 64 * q);
+        q += 1;
     }
 }

@@ -8,6 +8,7 @@ ghost use Rattle.rows.specs.Answer.{caresIn, caresOf, left, settled};
 ghost use Rattle.rows.specs.Inner.Chains.{chainOf, Rises, Weighs, Marked, RowPlaced, undone, Within};
 ghost use Rattle.rows.specs.Inner.Taken.{Taken};
 use crate::End;
+use crate::Fit;
 use crate::Placed;
 use crate::links::MARK;
 use crate::links::ROWS;
@@ -15,7 +16,6 @@ use crate::links::column;
 use crate::links::head;
 use crate::links::weight_from;
 use crate::room;
-use crate::room::Fit;
 use crate::room::TAKEN_WORDS;
 
 // Empties the cells of the rows that are placed.

@@ -144,6 +144,7 @@ withTries tries o =
           tries = tries;
           excess = o .built .unit .excess;
           variables = o .built .unit .variables;
+          mark = o .built .unit .mark;
         };
       };
       tables = o .tables;

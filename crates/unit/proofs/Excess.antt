@@ -19,7 +19,7 @@ use Rattle.build.proofs.Holding.Passed.{Passed, chosen-passed, given-passed}
 use Rattle.unit.specs.Excess.{NotNegative, ExcessChosen, ExcessGiven}
 
 -- SCOPE 8.6: variables that tell the vectors apart have a number for each of them
-apart-few : (ks : List Kind) (vs : List ℕ) → repeated (map (numberOf ks) vs) ≡ 0 → length vs ≤ 2 ^ length ks
+pub apart-few : (ks : List Kind) (vs : List ℕ) → repeated (map (numberOf ks) vs) ≡ 0 → length vs ≤ 2 ^ length ks
 apart-few ks vs e =
     rw (length-map vs (numberOf ks)) at
     (different-few (2 ^ length ks) (map (numberOf ks) vs)

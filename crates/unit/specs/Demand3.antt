@@ -1,4 +1,4 @@
--- Demand 3 (SCOPE 16.3 to 16.5), a predicate over any build: the displacements and the tries of an accepted list, and when no list is refused for lack of fit.
+-- Demand 3 (SCOPE 16.3 to 16.5), a predicate over any build: the displacements and the tries of an accepted list, and when no list is refused for lack of fit. It is said of builds: a unit to which a vector was added need not meet it (SCOPE 22.6).
 use Prim.Native.Nat.{ℕ, _+_, _-_, _^_, _≤_, _<_}
 use mathlib.Core.Path.{_≡_}
 use mathlib.Core.Bool.{true, false}

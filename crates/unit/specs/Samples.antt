@@ -13,7 +13,7 @@ use Rattle.choice.specs.Choice.{ones, left, apart, choose}
 use Rattle.rows.specs.Demand.{spread}
 use Rattle.vectors.specs.Bounds.{maxVariables}
 use Rattle.vectors.specs.Variable.{blankVariable}
-use Rattle.record.specs.Record.{blankRecord, log2Up, floorOf, floorWithZero}
+use Rattle.record.specs.Record.{markBuilt, blankRecord, log2Up, floorOf, floorWithZero}
 use Rattle.record.specs.Tables.{Tables}
 use Rattle.build.specs.Build.{Outcome, buildChosen, buildGiven, caresFrom, refused}
 use Rattle.lookup.specs.Lookup.{found, lookupOf}
@@ -79,6 +79,7 @@ pub record Table : Type 0 where
         kept = 41;
         tries = 15;
         excess = pos 0;
+        mark = markBuilt;
         variables = row (One 2) ∷ row (One 3) ∷ column (Two 4 5) ∷ replicate 21 blankVariable;
       };
     };
@@ -109,6 +110,7 @@ pub record Table : Type 0 where
         kept = 0;
         tries = 8;
         excess = pos 3;
+        mark = markBuilt;
         variables = row (One 4) ∷ row (One 5) ∷ row (One 6) ∷ column (One 1) ∷ column (One 2) ∷ column (One 3) ∷ replicate 18 blankVariable;
       };
     };
@@ -136,6 +138,7 @@ pub record Table : Type 0 where
         kept = 0;
         tries = 10;
         excess = pos 1;
+        mark = markBuilt;
         variables = row (One 1) ∷ row (One 2) ∷ column (One 3) ∷ replicate 21 blankVariable;
       };
     };
@@ -157,6 +160,7 @@ pub record Table : Type 0 where
         kept = 63;
         tries = 1;
         excess = pos 0;
+        mark = markBuilt;
         variables = replicate maxVariables blankVariable;
       };
     };
@@ -182,6 +186,7 @@ pub record Table : Type 0 where
         kept = 0;
         tries = 16;
         excess = pos 0;
+        mark = markBuilt;
         variables = row (One 1) ∷ row (One 2) ∷ column (One 3) ∷ replicate 21 blankVariable;
       };
     };

@@ -18,23 +18,28 @@ use Rattle.answer.proofs.Fits.Page.{answer-fits}
 use Rattle.pack.proofs.Fits.{pack-fits}
 use Rattle.listing.proofs.Fits.{list-fits}
 use Rattle.find.proofs.Fits.{find-fits}
+use Rattle.amend.proofs.Fits.{amend-fits}
 use Rattle.why.proofs.Fits.{why-fits}
 use Rattle.keys.proofs.Fits.{keys-fits}
 use Rattle.input.specs.Opens.{opens}
-use Rattle.words.specs.Words.{pageSize, says, packWord, whyWord, cellsWord, keysWord, showWord, listWord, findWord, asksFile, ofUnit, ofReading, ofFile, wordsOf}
+use Rattle.words.specs.Words.{pageSize, says, packWord, whyWord, cellsWord, keysWord, showWord, listWord, findWord, addWord, asksFile, printedOf, ofUnit, ofReading, ofFile, wordsOf}
 use Rattle.words.proofs.Writing.{file-refused, file-read, words-none, words-pack, words-why, words-cells, words-keys, words-file, words-other}
 use Rattle.cells.proofs.Fits.{cells-fits}
 
 unit-fits : (given : List ℕ) (u : Record) (t : Tables) → Loaded u t → length (ofUnit given u t) ≤ pageSize
-unfolding ofUnit
-unit-fits given u t l = go (says showWord given) refl (says listWord given) refl
+unfolding ofUnit printedOf
+unit-fits given u t l = adds (opens addWord given) refl
   where
-    go : (a : Bool) → says showWord given ≡ a → (b : Bool) → says listWord given ≡ b → length (ofUnit given u t) ≤ pageSize
+    go : (a : Bool) → says showWord given ≡ a → (b : Bool) → says listWord given ≡ b → length (printedOf given u t) ≤ pageSize
     go true p b q =
-        rw (p, ofUnit)
+        rw (p, printedOf)
         (text-low u t (l .is-sound) record { tries = omega (arith, l .tries); excess = l .excess; h = l .words .h; g = l .words .g; aux = l .words .aux })
-    go false p true q = rw (p, q, ofUnit) (omega (arith, list-fits u t))
-    go false p false q = rw (p, q, ofUnit) (omega (arith, find-fits u t (drop (length findWord) given)))
+    go false p true q = rw (p, q, printedOf) (omega (arith, list-fits u t))
+    go false p false q = rw (p, q, printedOf) (omega (arith, find-fits u t (drop (length findWord) given)))
+
+    adds : (a : Bool) → opens addWord given ≡ a → length (ofUnit given u t) ≤ pageSize
+    adds true p = rw (p, ofUnit) (omega (arith, amend-fits (drop (length addWord) given) u t))
+    adds false p = rw (p, ofUnit) (go (says showWord given) refl (says listWord given) refl)
 
 file-fits : (given file : List ℕ) → length (ofFile given file) ≤ pageSize
 file-fits given file = go (eqb (r .refusal) 0) refl

@@ -11,7 +11,7 @@ use lib.ListN.{length, getD, drop}
 use lib.Seq.{drop-nil}
 use Rattle.lists.proofs.Tests.{and-true}
 use Rattle.input.specs.Opens.{opens}
-use Rattle.words.specs.Words.{says, showWord, listWord, findWord, asksFile}
+use Rattle.words.specs.Words.{says, showWord, listWord, findWord, addWord, asksFile}
 
 module _ (word bytes : List ℕ) where
   pub says-short : (length bytes ≡ length word → ⊥) → false ≡ says word bytes
@@ -32,6 +32,19 @@ module _ (given : List ℕ) where
     unfolding asksFile
     asks-list h = rw (no-show, h, asksFile)
 
-    pub asks-find : says listWord given ≡ false → opens findWord given ≡ asksFile given
-    unfolding asksFile
-    asks-find h = rw (no-show, h, asksFile)
+    module _ (no-list : says listWord given ≡ false) where
+      pub asks-find : opens findWord given ≡ true → true ≡ asksFile given
+      unfolding asksFile
+      asks-find h = rw (no-show, no-list, h, asksFile)
+
+      pub asks-add : opens findWord given ≡ false → opens addWord given ≡ asksFile given
+      unfolding asksFile
+      asks-add h = rw (no-show, no-list, h, asksFile)
+
+      -- where the words are not for adding, the last of them is `find`
+      pub finds : asksFile given ≡ true → opens addWord given ≡ false → opens findWord given ≡ true
+      finds a n = go (opens findWord given) refl
+        where
+          go : (b : Bool) → opens findWord given ≡ b → opens findWord given ≡ true
+          go true q = q
+          go false q = absurd (false≢true (sym n ∙ asks-add q ∙ a))

@@ -21,13 +21,14 @@ use Rattle.pack.specs.Pack.{packOf}
 use Rattle.listing.specs.Listing.{listText}
 use Rattle.find.specs.Find.{findText}
 use Rattle.why.specs.Why.{whyOf}
+use Rattle.amend.specs.Amend.{amendText}
 use Rattle.keys.specs.Keys.{keysOf}
 use Rattle.input.specs.Opens.{opens}
-use Rattle.words.specs.Words.{says, packWord, whyWord, cellsWord, keysWord, showWord, listWord, findWord, asksFile, ofUnit, ofReading, ofFile, otherwise, wordsOf}
+use Rattle.words.specs.Words.{says, packWord, whyWord, cellsWord, keysWord, showWord, listWord, findWord, addWord, asksFile, printedOf, ofUnit, ofReading, ofFile, otherwise, wordsOf}
 use Rattle.cells.specs.Cells.{cellsOf}
 use Rattle.words.specs.Inner.{unitPrinted}
 use Rattle.input.proofs.Opening.{opens-long}
-use Rattle.words.proofs.Tests.{asks-find}
+use Rattle.words.proofs.Tests.{finds}
 
 -- ---- a unit
 
@@ -42,9 +43,9 @@ module _ (given : List ℕ) (u : Record) (t : Tables) (out : List ℕ) where
     unit-listed h = rw (no-show, h, unitPrinted)
 
     -- the keys are the bytes after the word
-    module _ (no-list : says listWord given ≡ false) (asks : asksFile given ≡ true) where
+    module _ (no-list : says listWord given ≡ false) (asks : asksFile given ≡ true) (no-add : opens addWord given ≡ false) where
       pub find-long : length findWord ≤ length given
-      find-long = opens-long findWord given (asks-find given no-show no-list ∙ asks)
+      find-long = opens-long findWord given (finds given no-show no-list asks no-add)
 
       pub unit-found : fitted (findText (take (length given - length findWord) (drop (length findWord) given)) u t) out ≡ unitPrinted given u t out
       unfolding unitPrinted
@@ -53,14 +54,14 @@ module _ (given : List ℕ) (u : Record) (t : Tables) (out : List ℕ) where
           (ap (λ (l : List ℕ). fitted (findText l u t) out) (take-all (length given - length findWord) (drop (length findWord) given) (omega (arith, length-drop (length findWord) given))))
 
   -- a unit that is well formed is printed
-  pub unit-said : wellFormed u t ≡ true → unitPrinted given u t out ≡ fitted (ofUnit given u t) out
-  unfolding unitPrinted ofUnit
+  pub unit-said : wellFormed u t ≡ true → unitPrinted given u t out ≡ fitted (printedOf given u t) out
+  unfolding unitPrinted printedOf
   unit-said f = go (says showWord given) refl (says listWord given) refl
     where
-      go : (a : Bool) → says showWord given ≡ a → (b : Bool) → says listWord given ≡ b → unitPrinted given u t out ≡ fitted (ofUnit given u t) out
-      go true p b q = rw (p, unitPrinted, ofUnit) (sym (print-formed u t out f))
-      go false p true q = rw (p, q, unitPrinted, ofUnit) refl
-      go false p false q = rw (p, q, unitPrinted, ofUnit) refl
+      go : (a : Bool) → says showWord given ≡ a → (b : Bool) → says listWord given ≡ b → unitPrinted given u t out ≡ fitted (printedOf given u t) out
+      go true p b q = rw (p, unitPrinted, printedOf) (sym (print-formed u t out f))
+      go false p true q = rw (p, q, unitPrinted, printedOf) refl
+      go false p false q = rw (p, q, unitPrinted, printedOf) refl
 
 -- ---- a file
 
@@ -83,8 +84,28 @@ module _ (given file : List ℕ) (r : Reading) (e : r ≡ readOf file roomy) whe
       let l = read-loaded file roomy (ap (λ (x : Reading). x .refusal) (sym e) ∙ z) in
       ap (λ (x : Reading). wellFormed (x .unit) (x .tables)) e ∙ sound-says _ _ (l .is-sound) .well-formed
 
-  pub file-said : (out : List ℕ) → r .refusal ≡ 0 → unitPrinted given (r .unit) (r .tables) out ≡ fitted (ofFile given file) out
-  file-said out z = unit-said given (r .unit) (r .tables) out (formed z) ∙ ap (λ (l : List ℕ). fitted l out) (file-read z)
+  module _ (z : r .refusal ≡ 0) where
+    -- what is printed of it, where nothing is added
+    module _ (no-add : opens addWord given ≡ false) where
+      printed-file : printedOf given (r .unit) (r .tables) ≡ ofFile given file
+      unfolding ofUnit
+      printed-file = let q : printedOf given (r .unit) (r .tables) ≡ ofUnit given (r .unit) (r .tables) = rw (no-add, ofUnit) in q ∙ file-read z
+
+      pub file-said : (out : List ℕ) → unitPrinted given (r .unit) (r .tables) out ≡ fitted (ofFile given file) out
+      file-said out = unit-said given (r .unit) (r .tables) out (formed z) ∙ ap (λ (l : List ℕ). fitted l out) printed-file
+
+    -- the keys are the bytes after the word
+    module _ (adds : opens addWord given ≡ true) where
+      pub add-long : length addWord ≤ length given
+      add-long = opens-long addWord given adds
+
+      pub file-added : amendText (take (length given - length addWord) (drop (length addWord) given)) (r .unit) (r .tables) ≡ ofFile given file
+      unfolding ofUnit
+      file-added =
+          let q : amendText (drop (length addWord) given) (r .unit) (r .tables) ≡ ofUnit given (r .unit) (r .tables) = rw (adds, ofUnit) in
+          ap (λ (l : List ℕ). amendText l (r .unit) (r .tables)) (take-all (length given - length addWord) (drop (length addWord) given) (omega (arith, length-drop (length addWord) given)))
+          ∙ q
+          ∙ file-read z
 
 -- ---- all words
 

@@ -17,6 +17,7 @@ use Rattle.pack.specs.Pack.{packOf}
 use Rattle.listing.specs.Listing.{listText}
 use Rattle.find.specs.Find.{findText}
 use Rattle.why.specs.Why.{whyOf}
+use Rattle.amend.specs.Amend.{amendText}
 use Rattle.keys.specs.Keys.{keysOf}
 use Rattle.cells.specs.Cells.{cellsOf}
 
@@ -49,21 +50,29 @@ listWord = ascii "list\n"
 abbrev pub findWord : List ℕ
 findWord = ascii "find\n"
 
+abbrev pub addWord : List ℕ
+addWord = ascii "add\n"
+
 -- ---- words for the file of a unit
 
--- `show` and `list` alone, `find` with keys behind it
+-- `show` and `list` alone, `find` and `add` with keys behind them
 unfoldable pub asksFile : List ℕ → Bool
 unfolding opens
-asksFile given = says showWord given || (says listWord given || opens findWord given)
+asksFile given = says showWord given || (says listWord given || (opens findWord given || opens addWord given))
 
--- what is written for a unit: its six lines, its list, or the keys with their numbers
-unfoldable pub ofUnit : List ℕ → Record → Tables → List ℕ
+-- what is printed of a unit: its six lines, its list, or the keys with their numbers
+unfoldable pub printedOf : List ℕ → Record → Tables → List ℕ
 unfolding opens textOf listText findText
-ofUnit given u t =
+printedOf given u t =
     elim (says showWord given) [
       | true ↦ textOf u t
       | false ↦ elim (says listWord given) [ true ↦ listText u t | false ↦ findText (drop (length findWord) given) u t ]
     ]
+
+-- what is written for a unit: its file with the keys added, or what is printed of it
+unfoldable pub ofUnit : List ℕ → Record → Tables → List ℕ
+unfolding opens amendText printedOf
+ofUnit given u t = elim (opens addWord given) [ true ↦ amendText (drop (length addWord) given) u t | false ↦ printedOf given u t ]
 
 -- what is written for what reading a file leaves; a refusal is one line
 unfoldable pub ofReading : List ℕ → Reading → List ℕ

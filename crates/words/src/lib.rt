@@ -1,9 +1,10 @@
 // What the program writes for the words of its call and what it reads.
 ghost use mathlib.Core.Path.{_≡_};
-ghost use mathlib.Core.Bool.{true};
+ghost use mathlib.Core.Bool.{true, false};
 ghost use Rattle.record.specs.Tables.{lent};
 ghost use Rattle.print.specs.Print.{printed, fitted};
-ghost use Rattle.words.specs.Words.{says as Words·says, asksFile, ofFile, wordsOf};
+ghost use Rattle.input.specs.Opens.{opens};
+ghost use Rattle.words.specs.Words.{says as Words·says, addWord, asksFile, ofFile, wordsOf};
 ghost use Rattle.words.specs.Inner.{unitPrinted};
 use unit::Record;
 
@@ -30,7 +31,10 @@ fn asks_file(given: &[u8]) -> bool
     if says(b"list\n", given) {
         return true;
     }
-    input::opens(b"find\n", given)
+    if input::opens(b"find\n", given) {
+        return true;
+    }
+    input::opens(b"add\n", given)
 }
 
 // Prints a unit, its list, or the keys that come after `find`.
@@ -42,7 +46,7 @@ fn print_unit(
     aux: &[u64],
     out: &mut [u8],
 ) -> usize
-    requires { ⌜ asksFile (now given) ≡ true ⌝ }
+    requires { ⌜ (asksFile (now given) ≡ true) × (opens addWord (now given) ≡ false) ⌝ }
     ensures { λ r. ⌜ printed r (now (out .exit)) ≡ unitPrinted (now (given .entry)) unit (lent (now (h .entry)) (now (g .entry)) (now (aux .entry))) (now (out .entry)) ⌝ }
 {
     if says(b"show\n", given) {
@@ -54,7 +58,7 @@ fn print_unit(
     find::find(&given[5..], unit, h, g, aux, out)
 }
 
-// Reads the file of a unit, and prints what the words ask for, or the refusal.
+// Reads the file of a unit, and writes it with the keys that come after `add`, or prints what the words ask for, or the refusal.
 fn from_file(given: &[u8], file: &[u8], out: &mut [u8]) -> usize
     requires { ⌜ asksFile (now given) ≡ true ⌝ }
     ensures { λ r. ⌜ printed r (now (out .exit)) ≡ fitted (ofFile (now (given .entry)) (now (file .entry))) (now (out .entry)) ⌝ }
@@ -65,6 +69,9 @@ fn from_file(given: &[u8], file: &[u8], out: &mut [u8]) -> usize
     let loaded = load::read(file, &mut h, &mut g, &mut aux);
     if loaded.refusal != 0 {
         return print::refused(loaded.refusal, loaded.place, out);
+    }
+    if input::opens(b"add\n", given) {
+        return amend::amend(&given[4..], loaded.unit, &mut h, &mut g, &mut aux, out);
     }
     print_unit(given, loaded.unit, &h, &g, &aux, out)
 }

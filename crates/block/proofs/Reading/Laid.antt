@@ -18,7 +18,7 @@ use Rattle.block.proofs.Reading.Same.{same-is, same-true, same-append}
 use Rattle.block.proofs.Reading.Blocks.{bodyOf, unused}
 
 -- zeros, as many
-zeros-same : (n : ℕ) (l : List ℕ) → length l ≡ n → same (replicate n 0) l ≡ every (λ b. eqb b 0) l
+pub zeros-same : (n : ℕ) (l : List ℕ) → length l ≡ n → same (replicate n 0) l ≡ every (λ b. eqb b 0) l
 unfolding same every
 zeros-same zero [] e = refl
 zeros-same zero (b ∷ l) e = absurd (omega arith)

@@ -22,7 +22,7 @@ use Rattle.span.proofs.Spans.{kept-lt}
 use Rattle.rows.specs.Care.{Care}
 use Rattle.record.specs.declared.Record.{Record}
 use Rattle.vectors.specs.Bounds.{maxInputs, maxVectors, maxCells, maxVariables, maxSide}
-use Rattle.record.specs.Record.{recordOf}
+use Rattle.record.specs.Record.{markBuilt, recordOf}
 use Rattle.build.specs.declared.Refusal.{Refusal}
 use Rattle.record.specs.Tables.{Tables, over}
 use Rattle.build.specs.Build.{caresFrom, placingOf, auxOf, written}
@@ -57,7 +57,7 @@ module _ (n n1 : ℕ) (second : Refusal) (ks : List Kind) (cells : ℕ) (vs : Li
   g = placingOf n1 ks cells vs .state .g
 
   abbrev u : Record
-  u = recordOf n n1 (length vs) ks cells (placingOf n1 ks cells vs .state .tries)
+  u = recordOf markBuilt n n1 (length vs) ks cells (placingOf n1 ks cells vs .state .tries)
 
   abbrev T : Tables
   T = written n n1 ks vs (placingOf n1 ks cells vs) t

@@ -11,7 +11,7 @@ use Rattle.rows.specs.declared.End.{End}
 use Rattle.rows.specs.declared.End.the-variants.{All, NoFit, Unfit}
 use Rattle.rows.proofs.Placing.Held.{lengths}
 use Rattle.rows.proofs.Placing.Turns.{ended}
-use Rattle.record.specs.Record.{recordOf}
+use Rattle.record.specs.Record.{markBuilt, recordOf}
 use Rattle.build.specs.declared.Refusal.{Refusal}
 use Rattle.record.specs.Tables.{Tables}
 use Rattle.build.specs.Build.{Outcome, caresFrom, placingOf, accepted, refusedFor, written, zeroed, finish, outcome}
@@ -39,7 +39,7 @@ module _ (n n1 : ℕ) (ks : List Kind) (cells : ℕ) (vs : List ℕ) (t : Tables
   abbrev pub acceptedOutcome : Outcome
   acceptedOutcome =
       record {
-        built = accepted (recordOf n n1 (length vs) ks cells (placingOf n1 ks cells vs .state .tries));
+        built = accepted (recordOf markBuilt n n1 (length vs) ks cells (placingOf n1 ks cells vs .state .tries));
         tables = written n n1 ks vs (placingOf n1 ks cells vs) t;
       }
 

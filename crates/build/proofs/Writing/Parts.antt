@@ -10,7 +10,7 @@ use Rattle.vectors.specs.declared.Kind.{Kind}
 use Rattle.span.specs.Span.{kept}
 use Rattle.vectors.specs.Word.{wordOf}
 use Rattle.build.specs.declared.Built.{Built}
-use Rattle.record.specs.Record.{blankRecord, recordOf}
+use Rattle.record.specs.Record.{markBuilt, blankRecord, recordOf}
 use Rattle.build.specs.Refusals as Refusals
 use Rattle.build.specs.Refusals.{check12}
 use Rattle.record.specs.Tables.{Tables, lent, over}
@@ -50,7 +50,7 @@ aux-size n n1 ks vs = ap suc (length-map vs (wordOf n n1 ks (kept n ks)))
 
 module _ (n n1 : ℕ) (ks : List Kind) (vs h g aux : List ℕ) (sh : length h ≡ 2 ^ n1) (sa : length aux ≡ suc (length vs)) (r : Built) (h′ g′ aux′ : List ℕ) where
   pub end-all : (tries : ℕ) → placingOf n1 ks (length g) vs .end ≡ All → tries ≡ placingOf n1 ks (length g) vs .state .tries
-      → r ≡ accepted (recordOf n n1 (length vs) ks (length g) tries) → h′ ≡ placingOf n1 ks (length g) vs .state .h → g′ ≡ placingOf n1 ks (length g) vs .state .g
+      → r ≡ accepted (recordOf markBuilt n n1 (length vs) ks (length g) tries) → h′ ≡ placingOf n1 ks (length g) vs .state .h → g′ ≡ placingOf n1 ks (length g) vs .state .g
       → aux′ ≡ auxOf n n1 ks vs → after r h′ g′ aux′ ≡ finish n n1 ks (length g) vs (lent h g aux)
   end-all tries e et er eh eg ea =
       let s = sizes n1 ks (length g) vs in

@@ -24,7 +24,7 @@ use Rattle.span.proofs.Count.{kept-number}
 use Rattle.rows.specs.Care.{Care, caresBy}
 use Rattle.rows.specs.Answer.{careOf, caresFrom, caresIn, caresOf, astray, unfit, settle, settled, placed}
 use Rattle.vectors.specs.Bounds.{maxInputs, maxSide, maxVectors, maxCells}
-use Rattle.record.specs.Record.{recordOf, excessOf, variablesOf}
+use Rattle.record.specs.Record.{markBuilt, recordOf, excessOf, variablesOf}
 use Rattle.build.specs.Build as build
 use Rattle.vectors.specs.Masks.{masksOf, wordBy}
 use Rattle.build.specs.Inner.Places.{placeBy}
@@ -58,8 +58,8 @@ words-are {n} {n1} {ks} {vs} l s =
 -- the record
 pub unit-is : (n n1 k cells tries p kept′ : ℕ) (ks : List Kind) (excess′ : ℤ) (variables′ : List Variable) → p ≡ length ks → kept′ ≡ kept n ks → excess′ ≡ excessOf p k
     → variables′ ≡ variablesOf n1 ks
-    → record { refusal = 0; place = 0; needed = 0; unit = record { n = n; p = p; n1 = n1; k = k; cells = cells; kept = kept′; tries = tries; excess = excess′; variables = variables′ } }
-    ≡ build.accepted (recordOf n n1 k ks cells tries)
+    → record { refusal = 0; place = 0; needed = 0; unit = record { n = n; p = p; n1 = n1; k = k; cells = cells; kept = kept′; tries = tries; excess = excess′; variables = variables′; mark = markBuilt } }
+    ≡ build.accepted (recordOf markBuilt n n1 k ks cells tries)
 unfolding recordOf
 unit-is n n1 k cells tries p kept′ ks excess′ variables′ e f g h = rw (g, e, f, h)
 

@@ -1,7 +1,7 @@
 -- A file read is a sound unit, and written again it is the same bytes. Assumes nothing.
 use mathlib.Core.Path.{_≡_, refl, sym, ap, ap₂, _∙_}
 use mathlib.Core.Bool.{true, _&&_}
-use mathlib.Core.List.{List, _++_}
+use mathlib.Core.List.{List, [], _∷_, _++_}
 use Prim.Native.Nat.{ℕ, _+_, _*_, _%_, _^_}
 use native.Mathlib.Nat.{mod-mod}
 use native.Mathlib.Omega.{arith}
@@ -14,8 +14,9 @@ use Rattle.vectors.specs.declared.Kind.{Kind}
 use Rattle.vectors.specs.Bounds.{maxVariables}
 use Rattle.vectors.specs.Variable.{firstFaulty}
 use Rattle.span.specs.Span.{soundOf}
+use Rattle.record.specs.declared.Mark.{Mark}
 use Rattle.record.specs.declared.Record.{Record}
-use Rattle.record.specs.Record.{recordOf, kindsIn}
+use Rattle.record.specs.Record.{markNumber, recordOf, kindsIn}
 use Rattle.record.specs.Tables.{Tables}
 use Rattle.record.specs.Formed.{inBounds, rightInputs, longEnough, wellFormed, sound}
 use Rattle.record.proofs.Soundness.{Sound, sound-says}
@@ -28,7 +29,7 @@ use Rattle.file.specs.File.{opening, variablesBytes, headOf, blocksFor, 
 use Rattle.file.specs.Decode.{recordIn, tablesIn}
 use Rattle.file.specs.Facts.{SameRecord, carriedRecord, carriedTables, ReadsBack}
 use Rattle.file.proofs.Laying.Files.{Whole}
-use Rattle.file.proofs.Laying.Heads.{fieldsOf, fields-are}
+use Rattle.file.proofs.Laying.Heads.{fieldsOf, markBytes, fields-are}
 use Rattle.file.proofs.Outcomes.{whole}
 use Rattle.file.proofs.Decoding.Words.{stack-same}
 use Rattle.file.proofs.Decoding.Units.{record-read, tables-read}
@@ -48,6 +49,7 @@ record-same u t h =
       cells = refl;
       tries = sym (mod-mod (u .tries) (2 ^ 32));
       variables = sym (kinds-carried u);
+      mark = refl;
       kept = s .kept-is;
     }
 
@@ -83,7 +85,10 @@ module _ (u v : Record) (e : SameRecord u v) where
   unfolding headOf
   head-same =
       ap (blockOf (opening headKind 0))
-      (fields-are u ∙ ap₂ (λ (f : List ℕ) (ks : List Kind). f ++ padded (2 * maxVariables) (variablesBytes ks)) fields-same (e .variables) ∙ sym (fields-are v))
+      (fields-are u
+      ∙ ap₂ (λ (f : List ℕ) (ks : List Kind). f ++ padded (2 * maxVariables) (variablesBytes ks) ++ markBytes u) fields-same (e .variables)
+      ∙ ap (λ (m : Mark). fieldsOf v ++ padded (2 * maxVariables) (variablesBytes (kindsIn v)) ++ (markNumber m % 256 ∷ [])) (e .mark)
+      ∙ sym (fields-are v))
 
 -- ---- the tables
 

@@ -39,7 +39,7 @@ use Rattle.file.proofs.Decoding.Same.{h-whole, g-whole, aux-whole}
 use Rattle.file.proofs.Decoding.Again.{record-same, carried-sound}
 
 -- an entry within the range of both
-in-range : {m i : ℕ} (a b : List ℕ) {n : ℕ} → take m a ≡ take n b → m ≡ n → i < m → getD a i 0 ≡ getD b i 0
+pub in-range : {m i : ℕ} (a b : List ℕ) {n : ℕ} → take m a ≡ take n b → m ≡ n → i < m → getD a i 0 ≡ getD b i 0
 in-range {m} {i} a b {n} e q h = sym (getD-take m a i 0 h) ∙ ap (λ (l : List ℕ). getD l i 0) e ∙ getD-take n b i 0 (omega arith)
 
 module _ (u v : Record) (s t : Tables) (e : SameUnit u s v t) (hu : sound u s ≡ true) (hv : sound v t ≡ true) where
@@ -64,7 +64,7 @@ module _ (u v : Record) (s t : Tables) (e : SameUnit u s v t) (hu : sound u s �
   -- ---- lookup
 
   module _ (x : ℕ) where
-    cell-same : cellIn u s x ≡ cellIn v t x
+    pub cell-same : cellIn u s x ≡ cellIn v t x
     cell-same =
         let r : rowOf (u .n1) (kindsIn u) x ≡ rowOf (v .n1) (kindsIn v) x = ap₂ (λ (i : ℕ) (ks : List Kind). rowOf i ks x) (f .n1) (f .variables) in
         let c : columnOf (u .n1) (kindsIn u) x ≡ columnOf (v .n1) (kindsIn v) x = ap₂ (λ (i : ℕ) (ks : List Kind). columnOf i ks x) (f .n1) (f .variables) in
@@ -72,7 +72,7 @@ module _ (u v : Record) (s t : Tables) (e : SameUnit u s v t) (hu : sound u s �
         displacement (rowOf (u .n1) (kindsIn u) x) (row-lt (u .n1) (kindsIn u) x (S .rows-in)) ∙ ap (λ (i : ℕ). getD (t .h) i 0) r in
         ap₂ (λ (i j : ℕ). i + j) d c
 
-    word-same : wordIn u x ≡ wordIn v x
+    pub word-same : wordIn u x ≡ wordIn v x
     word-same = cc (f .n, f .n1, f .variables, f .kept)
 
     compared-same : (i : ℕ) → compared u (s .aux) x i ≡ compared v (t .aux) x i
@@ -157,7 +157,7 @@ whole-again : (m : ℕ) (l a : List ℕ) → l ≡ take m a → length (take m a
 whole-again m l a e n = sym e ∙ sym (take-all m l (omega (arith, ap length e)))
 
 module _ (u : Record) (t : Tables) (h : sound u t ≡ true) (f : WordsFit u t) where
-  carried-same : SameUnit u t (carriedRecord u) (carriedTables u t)
+  pub carried-same : SameUnit u t (carriedRecord u) (carriedTables u t)
   unfolding recordOf
   carried-same =
       let w : Whole u (take (rowsIn u) (t .h)) (take (u .cells) (t .g)) (take (wordsIn u) (t .aux)) = whole u t h in

@@ -9,8 +9,9 @@ use Rattle.vectors.specs.declared.Kind.{Kind}
 use Rattle.vectors.specs.declared.Variable.{Variable}
 use Rattle.vectors.specs.Bounds.{maxVectors, maxVariables}
 use Rattle.vectors.specs.Variable.{kindsOf}
+use Rattle.record.specs.declared.Mark.{Mark}
 use Rattle.record.specs.declared.Record.{Record}
-use Rattle.record.specs.Record.{recordOf}
+use Rattle.record.specs.Record.{markBuilt, recordOf}
 use Rattle.record.specs.Tables.{Tables}
 use Rattle.record.specs.Holds.{Holds}
 use Rattle.record.proofs.Marks.{kinds-in}
@@ -26,9 +27,9 @@ use Rattle.file.proofs.Decoding.Units.{record-read}
 use Rattle.file.proofs.Decoding.Tries.{tries-low}
 
 -- worked out anew it is the same
-record-again : (n n1 k : ℕ) (ks : List Kind) (cells tries : ℕ) → tries < 2 ^ 32 → carriedRecord (recordOf n n1 k ks cells tries) ≡ recordOf n n1 k ks cells tries
+record-again : (mark : Mark) (n n1 k : ℕ) (ks : List Kind) (cells tries : ℕ) → tries < 2 ^ 32 → carriedRecord (recordOf mark n n1 k ks cells tries) ≡ recordOf mark n n1 k ks cells tries
 unfolding recordOf
-record-again n n1 k ks cells tries l = ap₂ (λ (x : List Kind) (y : ℕ). recordOf n n1 k x cells y) (kinds-in n1 ks) (mod-eq-of-lt l)
+record-again mark n n1 k ks cells tries l = ap₂ (λ (x : List Kind) (y : ℕ). recordOf mark n n1 k x cells y) (kinds-in n1 ks) (mod-eq-of-lt l)
 
 module _ (r s : Refusal) (n n1 : ℕ) (ks : List Kind) (cells : ℕ) (vs : List ℕ) (t : Tables) where
   abbrev o : Outcome
@@ -40,9 +41,9 @@ module _ (r s : Refusal) (n n1 : ℕ) (ks : List Kind) (cells : ℕ) (vs : List 
       let h : Holds (o .built .unit) (o .tables) vs = held z in
       let few : length vs ≤ maxVectors = omega (arith, ranges (o .built .unit) (o .tables) (h .is-sound) .vectors-few, h .vectors) in
       let l : o .built .unit .tries < 2 ^ 32 = tries-low n1 ks vs _ _ _ _ few (d .shifted z) in
-      let e : o .built .unit ≡ recordOf n n1 (length vs) ks cells (placingOf n1 ks cells vs .state .tries) = ap (λ (x : Outcome). x .built .unit) (outcome-accepted n n1 ks cells vs t r z .is) in
+      let e : o .built .unit ≡ recordOf markBuilt n n1 (length vs) ks cells (placingOf n1 ks cells vs .state .tries) = ap (λ (x : Outcome). x .built .unit) (outcome-accepted n n1 ks cells vs t r z .is) in
       let m : placingOf n1 ks cells vs .state .tries < 2 ^ 32 = omega (arith, ap (λ (x : Record). x .tries) e) in
-      record-read (o .built .unit) (o .tables) (h .is-sound) ∙ ap carriedRecord e ∙ record-again n n1 (length vs) ks cells (placingOf n1 ks cells vs .state .tries) m ∙ sym e
+      record-read (o .built .unit) (o .tables) (h .is-sound) ∙ ap carriedRecord e ∙ record-again markBuilt n n1 (length vs) ks cells (placingOf n1 ks cells vs .state .tries) m ∙ sym e
 
 pub chosen-record-carried : (n degree cells : ℕ) (vs : List ℕ) (t : Tables) → RecordCarried (buildChosen n degree cells vs t)
 unfolding buildChosen

@@ -1,37 +1,41 @@
 -- The fields of a head read back from the bytes of a file. Assumes nothing.
-use mathlib.Core.Path.{_≡_, refl, ap, ap₂, _∙_}
+use mathlib.Core.Path.{_≡_, refl, sym, ap, ap₂, _∙_}
 use mathlib.Core.Bool.{Bool, false, cond, _||_}
 use mathlib.Core.List.{List, [], _∷_, _++_, append-assoc}
-use Prim.Native.Nat.{ℕ, zero, suc, _+_, _%_, _^_, _<_}
+use Prim.Native.Nat.{ℕ, zero, suc, _+_, _-_, _*_, _%_, _^_, _≤_, _<_}
+use native.Mathlib.Nat.{mod-eq-of-lt}
 use native.Mathlib.Omega.{arith}
 use borrow.Author.Tests.{leb-false, ne-eqb}
 use lib.Dec.{eqb, leb, ltb}
-use lib.ListN.{length, getD, take, drop}
-use lib.Seq.{getD-append-add}
+use lib.ListN.{length, getD, take, drop, replicate, length-append}
+use lib.Seq.{getD-append-add, drop-at}
 use Rattle.lists.specs.Members.{All}
 use Rattle.lists.proofs.Tests.{or-false}
 use Rattle.vectors.specs.declared.Kind.{Kind}
 use Rattle.vectors.specs.declared.Kind.the-variants.{One, Two}
+use Rattle.vectors.specs.Bounds.{maxVariables}
 use Rattle.vectors.specs.Variable.{faulty}
 use Rattle.record.specs.declared.Record.{Record}
-use Rattle.record.specs.Record.{kindsIn}
+use Rattle.record.specs.Record.{markNumber, kindsIn}
+use Rattle.record.proofs.MarkNumbers.{mark-low}
 use Rattle.block.specs.declared.Opening.{Opening}
 use Rattle.block.specs.Bytes.{littleOf, valueOf, numberAt}
-use Rattle.block.specs.Block.{openingOf, checkOf, shortWord, longWord, shortWords, longWords}
+use Rattle.block.specs.Block.{openingOf, padded, checkOf, shortWord, longWord, shortWords, longWords}
+use Rattle.block.proofs.Laying.Words.{length-padded}
 use Rattle.block.proofs.Reading.Numbers.{value-little}
 use Rattle.block.proofs.Reading.Blocks.{bodyOf, unused, block-parts}
-use Rattle.file.specs.Layout.{headKind, hKind, gKind, auxKind, nAt, pAt, n1At, kAt, cellsAt, triesAt, variablesAt}
+use Rattle.file.specs.Layout.{headKind, hKind, gKind, auxKind, nAt, pAt, n1At, kAt, cellsAt, triesAt, variablesAt, markAt}
 use Rattle.file.specs.File.{opening, variablesBytes, headPayload, headOf, tableOf, hFirst, gFirst, auxFirst, fileWith}
 use Rattle.file.specs.Decode.{kindOf, kindsFrom}
-use Rattle.file.proofs.Laying.Heads.{fieldsOf, fields-are}
+use Rattle.file.proofs.Laying.Heads.{length-variables, fieldsOf, markBytes, fields-are}
 
--- the bytes of a file up to the variables, these, and the rest
+-- the bytes of a file up to the mark, and the rest
 pub record Opens (u : Record) (file : List ℕ) : Type 0 where
   pub rest : List ℕ
-  pub is : file ≡ openingOf (opening headKind 0) ++ fieldsOf u ++ (variablesBytes (kindsIn u) ++ rest)
+  pub is : file ≡ openingOf (opening headKind 0) ++ fieldsOf u ++ (padded (2 * maxVariables) (variablesBytes (kindsIn u)) ++ (markBytes u ++ rest))
 
-regroup : (o f v z x h g a : List ℕ) → o ++ (f ++ (v ++ z) ++ x) ++ h ++ g ++ a ≡ o ++ f ++ (v ++ (z ++ (x ++ (h ++ (g ++ a)))))
-regroup o f v z x h g a = simp append-assoc
+regroup : (o f w m x h g a : List ℕ) → o ++ (f ++ w ++ m ++ x) ++ h ++ g ++ a ≡ o ++ f ++ (w ++ (m ++ (x ++ (h ++ (g ++ a)))))
+regroup o f w m x h g a = simp append-assoc
 
 pub opens : (u : Record) (h g aux : List ℕ) → Opens u (fileWith u h g aux)
 unfolding fileWith headOf
@@ -44,13 +48,16 @@ opens u h g aux =
     record {
       rest = _;
       is = ap (λ (l : List ℕ). l ++ p ++ q ++ r) (block-parts o (headPayload u) ∙ ap (λ (l : List ℕ). openingOf o ++ (l ++ x)) (fields-are u))
-          ∙ regroup (openingOf o) (fieldsOf u) (variablesBytes (kindsIn u)) _ x p q r;
+          ∙ regroup (openingOf o) (fieldsOf u) (padded (2 * maxVariables) (variablesBytes (kindsIn u))) (markBytes u) x p q r;
     }
 
 -- ---- the numbers
 
 module _ (u : Record) (file : List ℕ) (o : Opens u file) where
-  field : (m at w : ℕ) → take m (drop at (openingOf (opening headKind 0) ++ fieldsOf u ++ (variablesBytes (kindsIn u) ++ o .rest))) ≡ littleOf m w → numberAt m at file ≡ w % 256 ^ m
+  abbrev variables : List ℕ
+  variables = padded (2 * maxVariables) (variablesBytes (kindsIn u))
+
+  field : (m at w : ℕ) → take m (drop at (openingOf (opening headKind 0) ++ fieldsOf u ++ (variables ++ (markBytes u ++ o .rest)))) ≡ littleOf m w → numberAt m at file ≡ w % 256 ^ m
   unfolding numberAt
   field m at w e = ap (numberAt m at) (o .is) ∙ ap valueOf e ∙ value-little m w
 
@@ -77,6 +84,15 @@ module _ (u : Record) (file : List ℕ) (o : Opens u file) where
   pub tries-read : numberAt 4 triesAt file ≡ u .tries % 2 ^ 32
   unfolding openingOf littleOf
   tries-read = field 4 triesAt (u .tries) refl
+
+  -- behind all the variables
+  pub mark-read : length (kindsIn u) ≤ maxVariables → numberAt 1 markAt file ≡ markNumber (u .mark)
+  unfolding openingOf littleOf
+  mark-read few =
+      let f : List ℕ = openingOf (opening headKind 0) ++ fieldsOf u in
+      let n : length (f ++ variables) ≡ markAt = length-append f variables ∙ omega (arith, length-padded (2 * maxVariables) (variablesBytes (kindsIn u)) (omega (arith, length-variables (kindsIn u)))) in
+      field 1 markAt (markNumber (u .mark)) (ap (λ (l : List ℕ). take 1 (drop markAt l)) (sym (append-assoc f variables (markBytes u ++ o .rest))) ∙ ap (take 1) (drop-at (f ++ variables) (markBytes u ++ o .rest) markAt n))
+      ∙ mod-eq-of-lt (omega (arith, mark-low (u .mark)))
 
 -- ---- the variables
 
@@ -111,6 +127,9 @@ pub variables-read : (u : Record) (file : List ℕ) → Opens u file → All (λ
 unfolding openingOf littleOf
 variables-read u file o a =
     let f : List ℕ = openingOf (opening headKind 0) ++ fieldsOf u in
+    let v : List ℕ = variablesBytes (kindsIn u) in
+    let z : List ℕ = replicate (2 * maxVariables - length v) 0 in
     ap (kindsFrom (length (kindsIn u)) variablesAt) (o .is)
-    ∙ behind (length (kindsIn u)) 0 f (variablesBytes (kindsIn u) ++ o .rest)
-    ∙ kinds-read (u .n) (kindsIn u) (o .rest) a
+    ∙ behind (length (kindsIn u)) 0 f (v ++ z ++ (markBytes u ++ o .rest))
+    ∙ ap (kindsFrom (length (kindsIn u)) 0) (append-assoc v z (markBytes u ++ o .rest))
+    ∙ kinds-read (u .n) (kindsIn u) (z ++ (markBytes u ++ o .rest)) a

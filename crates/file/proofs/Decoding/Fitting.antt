@@ -1,4 +1,4 @@
--- The words that an accepted build leaves fit 16 and 64 bits. Assumes nothing.
+-- The words that an accepted build leaves fit 16 and 64 bits, and those of a unit that holds a list. Assumes nothing.
 use mathlib.Core.Path.{_≡_, refl, sym, ap, _∙_}
 use mathlib.Core.Bool.{Bool, true, false}
 use mathlib.Core.List.{List}
@@ -23,11 +23,11 @@ use Rattle.rows.proofs.Demand3 as placing
 use Rattle.rows.proofs.Fits.Cells.{in-row}
 use Rattle.rows.proofs.Fits.Filled.{blank-zero}
 use Rattle.record.specs.declared.Record.{Record}
-use Rattle.record.specs.Record.{recordOf, kindsIn}
+use Rattle.record.specs.Record.{markBuilt, recordOf, kindsIn}
 use Rattle.record.specs.Tables.{Tables}
 use Rattle.record.specs.Holds.{Holds}
 use Rattle.record.specs.Leads.{wordIn, cellIn}
-use Rattle.record.proofs.Formed.{well-formed-facts}
+use Rattle.record.proofs.Formed.{well-formed-facts, few-words}
 use Rattle.record.proofs.Soundness.{Sound, sound-says}
 use Rattle.record.proofs.Marks.{kinds-in}
 use Rattle.build.specs.declared.Refusal.{Refusal}
@@ -36,16 +36,47 @@ use Rattle.build.proofs.Holding.Built.{accepted-holds}
 use Rattle.build.proofs.Holding.Cares.{cares-entry}
 use Rattle.build.proofs.Holding.Ends.{placing-rows, outcome-accepted}
 use Rattle.build.proofs.Holding.Passed.{Passed}
+use Rattle.file.specs.File.{rowsIn, wordsIn}
 use Rattle.file.specs.Facts.{WordsFit}
 
 -- entries below a bound, of the first m
 first-low : (bound m : ℕ) (l : List ℕ) → ((i : ℕ) → i < m → getD l i 0 < bound) → All (λ (w : ℕ). w < bound) (take m l)
 first-low bound m l f = at-all (λ (w : ℕ). w < bound) (take m l) 0 (λ i h. let j : i < m = omega (arith, length-take m l) in rw (getD-take m l i 0 j) (f i j))
 
+-- of a unit that holds a list: the cells and the words of its vectors fit, so that its displacements and AUX[0] decide
+module _ (u : Record) (t : Tables) (vs : List ℕ) (H : Holds u t vs) where
+  S : Sound u t
+  S = sound-says u t (H .is-sound)
+
+  g-low : (i : ℕ) → i < u .cells → getD (t .g) i 0 < 2 ^ 16
+  g-low i l = go (eqb (getD (t .g) i 0) 0) refl
+    where
+      go : (b : Bool) → eqb (getD (t .g) i 0) 0 ≡ b → getD (t .g) i 0 < 2 ^ 16
+      go true q = omega (arith, eqb-true (getD (t .g) i 0) 0 q)
+      go false q =
+          let p = H .leads i l (eqb-false (getD (t .g) i 0) 0 q) in
+          omega (arith, p .holds, p .listed, H .vectors, few-words u t (S .well-formed) .0)
+
+  aux-low : getD (t .aux) 0 0 < 2 ^ 64 → (i : ℕ) → i < wordsIn u → getD (t .aux) i 0 < 2 ^ 64
+  aux-low z zero l = z
+  aux-low z (suc i) l =
+      let v : ℕ = getD vs i 0 in
+      let r : u .n1 + ones (u .kept) ≤ 64 = omega (arith, S .kept-count, S .rows-in, S .variables, well-formed-facts u t (S .well-formed) .bounds .inputs) in
+      let w : wordIn u v < 2 ^ 64 = word-lt (u .n) (u .n1) (kindsIn u) (u .kept) v (S .rows-in) 64 (S .kept-in) r in
+      rw (H .words i (omega (arith, H .vectors))) w
+
+  pub holds-fits : ((r : ℕ) → r < rowsIn u → getD (t .h) r 0 < 2 ^ 16) → getD (t .aux) 0 0 < 2 ^ 64 → WordsFit u t
+  holds-fits f z =
+      record {
+        h = first-low (2 ^ 16) (rowsIn u) (t .h) f;
+        g = first-low (2 ^ 16) (u .cells) (t .g) g-low;
+        aux = first-low (2 ^ 64) (wordsIn u) (t .aux) (aux-low z);
+      }
+
 module _ (n n1 : ℕ) (second : Refusal) (ks : List Kind) (cells : ℕ) (vs : List ℕ) (t : Tables) (R : Passed n n1 second ks cells vs t)
     (e : placingOf n1 ks cells vs .end ≡ ends.All) where
   abbrev u : Record
-  u = recordOf n n1 (length vs) ks cells (placingOf n1 ks cells vs .state .tries)
+  u = recordOf markBuilt n n1 (length vs) ks cells (placingOf n1 ks cells vs .state .tries)
 
   abbrev T : Tables
   T = written n n1 ks vs (placingOf n1 ks cells vs) t
@@ -92,26 +123,9 @@ module _ (n n1 : ℕ) (second : Refusal) (ks : List Kind) (cells : ℕ) (vs : Li
           let j : r < length (P .h) = omega (arith, placing-rows n1 ks cells vs) in
           omega (arith, List·getD-append (P .h) (drop (length (P .h)) (t .h)) 0 r j, left-out r m)
 
-  g-low : (i : ℕ) → i < cells → getD (T .g) i 0 < 2 ^ 16
-  unfolding recordOf
-  g-low i l = go (eqb (getD (T .g) i 0) 0) refl
-    where
-      go : (b : Bool) → eqb (getD (T .g) i 0) 0 ≡ b → getD (T .g) i 0 < 2 ^ 16
-      go true q = omega (arith, eqb-true (getD (T .g) i 0) 0 q)
-      go false q = let p = H .leads i l (eqb-false (getD (T .g) i 0) 0 q) in omega (arith, p .holds, p .listed, R .list .listed .few)
-
-  aux-low : (i : ℕ) → i < suc (length vs) → getD (T .aux) i 0 < 2 ^ 64
-  aux-low zero l = omega arith
-  aux-low (suc i) l =
-      let s : Sound u T = sound-says u T (H .is-sound) in
-      let v : ℕ = getD vs i 0 in
-      let r : u .n1 + ones (u .kept) ≤ 64 = omega (arith, s .kept-count, s .rows-in, s .variables, well-formed-facts u T (s .well-formed) .bounds .inputs) in
-      let w : wordIn u v < 2 ^ 64 = word-lt (u .n) (u .n1) (kindsIn u) (u .kept) v (s .rows-in) 64 (s .kept-in) r in
-      rw (H .words i (omega arith)) w
-
   accepted-fits : WordsFit u T
   unfolding recordOf
-  accepted-fits = record { h = first-low (2 ^ 16) (2 ^ n1) (T .h) h-low; g = first-low (2 ^ 16) cells (T .g) g-low; aux = first-low (2 ^ 64) (suc (length vs)) (T .aux) aux-low }
+  accepted-fits = holds-fits u T vs H h-low (omega arith)
 
 -- of either build
 module _ (r : Refusal) (n n1 : ℕ) (second : Refusal) (ks : List Kind) (cells : ℕ) (vs : List ℕ) (t : Tables)

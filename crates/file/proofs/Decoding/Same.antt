@@ -55,6 +55,7 @@ same-file u v s t hs ht ls lt e =
         cells = ap (λ (x : Record). x .cells) r;
         tries = ap (λ (x : Record). x .tries) r;
         variables = sym (kinds-carried u) ∙ ap kindsIn r ∙ kinds-carried v;
+        mark = ap (λ (x : Record). x .mark) r;
         kept = a .kept-is ∙ ap (λ (x : Record). x .kept) r ∙ sym (b .kept-is);
       };
       h = sym (h-whole u s ls) ∙ ap (λ (x : Tables). x .h) w ∙ h-whole v t lt;

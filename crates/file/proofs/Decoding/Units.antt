@@ -6,22 +6,23 @@ use Prim.Native.Nat.{ℕ, _*_}
 use native.Mathlib.Omega.{arith}
 use lib.ListN.{length, take, length-append}
 use Rattle.record.specs.declared.Record.{Record}
-use Rattle.record.specs.Record.{recordOf, kindsIn}
+use Rattle.record.specs.Record.{markOf, recordOf, kindsIn}
 use Rattle.record.specs.Tables.{Tables, lent}
 use Rattle.record.specs.Inner.Formed.{WellFormed}
 use Rattle.record.specs.Formed.{sound}
 use Rattle.record.proofs.Formed.{well-formed-facts}
 use Rattle.record.proofs.Soundness.{Sound, sound-says}
+use Rattle.record.proofs.MarkNumbers.{mark-back}
 use Rattle.block.specs.Bytes.{numberAt}
 use Rattle.block.specs.Block.{blockSize, shortWord, longWord, shortWords, longWords}
 use Rattle.block.proofs.Reading.Words.{lowWords}
-use Rattle.file.specs.Layout.{hKind, gKind, auxKind, nAt, pAt, n1At, kAt, cellsAt, variablesAt}
+use Rattle.file.specs.Layout.{hKind, gKind, auxKind, nAt, pAt, n1At, kAt, cellsAt, variablesAt, markAt}
 use Rattle.file.specs.File.{headOf, tableOf, blocksFor, rowsIn, wordsIn, hFirst, gFirst, auxFirst, fileWith, fileOf}
 use Rattle.file.specs.Decode.{kindsFrom, recordIn, tableIn, tablesIn}
 use Rattle.file.specs.Facts.{carriedRecord, carriedTables}
 use Rattle.file.proofs.Laying.Files.{Whole, length-head, length-table}
 use Rattle.file.proofs.Outcomes.{Ranges, ranges, whole}
-use Rattle.file.proofs.Decoding.Fields.{Opens, opens, n-read, p-read, n1-read, k-read, cells-read, tries-read, variables-read}
+use Rattle.file.proofs.Decoding.Fields.{Opens, opens, n-read, p-read, n1-read, k-read, cells-read, tries-read, mark-read, variables-read}
 use Rattle.file.proofs.Decoding.Words.{table-read}
 
 -- ---- the tables
@@ -77,6 +78,7 @@ module _ (u : Record) (t : Tables) (h : sound u t ≡ true) where
       let k : numberAt 2 kAt f ≡ u .k = omega (arith, k-read u f begins) in
       let c : numberAt 2 cellsAt f ≡ u .cells = omega (arith, cells-read u f begins) in
       let ks : kindsFrom (numberAt 1 pAt f) variablesAt f ≡ kindsIn u = ap (λ (i : ℕ). kindsFrom i variablesAt f) p ∙ variables-read u f begins (w .inputs .right) in
+      let m : markOf (numberAt 1 markAt f) ≡ u .mark = ap markOf (mark-read u f begins (r .variables-few)) ∙ mark-back (u .mark) in
       cc (tries-read u f begins)
 
   tables-are : tablesIn u (fileOf u t) ≡ carriedTables u t

@@ -10,9 +10,9 @@ use Rattle.record.specs.declared.Record.{Record}
 use Rattle.record.specs.Record.{kindsIn}
 use Rattle.block.specs.Block.{blockSize, payloadAt, checkAt, padded, shortWord, longWord, shortWords, longWords}
 use Rattle.block.proofs.Laying.Words.{front, behind, length-padded, length-block}
-use Rattle.file.specs.Layout.{headKind, hKind, gKind, auxKind}
+use Rattle.file.specs.Layout.{headKind, hKind, gKind, auxKind, freeAt}
 use Rattle.file.specs.File.{opening, variablesBytes, headPayload, headOf, blocksFor, tableBlock, tableOf, rowsIn, wordsIn, hFirst, gFirst, auxFirst, sizeOf, fileWith}
-use Rattle.file.proofs.Laying.Heads.{fieldsOf, fields-are, length-variables}
+use Rattle.file.proofs.Laying.Heads.{fieldsOf, markBytes, fields-are, length-variables}
 use Rattle.file.proofs.Laying.Stacks.{length-table-block, length-stack}
 
 pub length-table : (kind size per first : ℕ) (words : List ℕ) → size * per ≤ checkAt - payloadAt → length (tableOf kind size per first words) ≡ blockSize * blocksFor per (length words)
@@ -20,12 +20,12 @@ unfolding tableOf
 length-table kind size per first words fit =
     length-stack (tableBlock kind size per first words) (length-table-block kind size per first words fit) (blocksFor per (length words))
 
--- the fields and the variables
-pub length-payload : (u : Record) → length (kindsIn u) ≤ maxVariables → length (headPayload u) ≡ length (fieldsOf u) + 2 * maxVariables
+-- the fields, the variables and the mark
+pub length-payload : (u : Record) → length (kindsIn u) ≤ maxVariables → length (headPayload u) ≡ freeAt - payloadAt
 length-payload u few =
-    let v : List ℕ = variablesBytes (kindsIn u) in
-    ap length (fields-are u) ∙ length-append (fieldsOf u) (padded (2 * maxVariables) v)
-    ∙ ap (λ (i : ℕ). length (fieldsOf u) + i) (length-padded (2 * maxVariables) v (omega (arith, length-variables (kindsIn u))))
+    let w : List ℕ = padded (2 * maxVariables) (variablesBytes (kindsIn u)) in
+    let n : length w ≡ 2 * maxVariables = length-padded (2 * maxVariables) (variablesBytes (kindsIn u)) (omega (arith, length-variables (kindsIn u))) in
+    ap length (fields-are u) ∙ length-append (fieldsOf u ++ w) (markBytes u) ∙ omega (arith, length-append (fieldsOf u) w)
 
 pub length-head : (u : Record) → length (kindsIn u) ≤ maxVariables → length (headOf u) ≡ blockSize
 unfolding headOf

@@ -1,11 +1,12 @@
 -- The variables laid into the head, and the head's fields together. Assumes nothing.
-use mathlib.Core.Path.{_≡_, refl, sym, ap, _∙_}
+use mathlib.Core.Path.{_≡_, refl, sym, ap, ap₂, _∙_}
 use mathlib.Core.List.{List, [], _∷_, _++_, append-nil, append-assoc}
 use Prim.Native.Nat.{ℕ, zero, suc, _+_, _-_, _*_, _/_, _%_, _≤_, _<_, min}
+use native.Mathlib.Nat.{mod-eq-of-lt}
 use native.Mathlib.Numerals.{add-one}
 use native.Mathlib.Omega.{arith}
 use lib.ListN.{length, getD, take, set, replicate, length-append, length-map, length-set, length-replicate, replicate-append-replicate, List·getD-map}
-use lib.Seq.{sets, length-sets, length-take-le}
+use lib.Seq.{sets, length-take-le, take-set-lt, set-append-seam}
 use Rattle.lists.proofs.Entries.Members.{take-more, map-take}
 use Rattle.lists.proofs.Entries.Parts.{take-least}
 use Rattle.lists.proofs.Writing.Storing.{sets-append}
@@ -15,11 +16,12 @@ use Rattle.vectors.specs.declared.Variable.{Variable}
 use Rattle.vectors.specs.Bounds.{maxVariables}
 use Rattle.vectors.specs.Variable.{kindsOf}
 use Rattle.record.specs.declared.Record.{Record}
-use Rattle.record.specs.Record.{kindsIn}
+use Rattle.record.specs.Record.{markNumber, kindsIn}
+use Rattle.record.proofs.MarkNumbers.{mark-low}
 use Rattle.block.specs.Bytes.{littleOf}
 use Rattle.block.specs.Block.{payloadAt, checkAt, openingOf, padded, sealed, blockOf}
-use Rattle.block.proofs.Laying.Words.{length-opening, laid}
-use Rattle.file.specs.Layout.{headKind, lettersAt, variablesAt}
+use Rattle.block.proofs.Laying.Words.{length-opening, length-padded, laid}
+use Rattle.file.specs.Layout.{headKind, lettersAt, variablesAt, markAt}
 use Rattle.file.specs.File.{opening, variableBytes, variablesBytes, headPayload, headOf}
 
 length-variable : (k : Kind) → length (variableBytes k) ≡ 2
@@ -82,7 +84,11 @@ fieldsOf u =
     ∷ u .tries % 256 ∷ u .tries / 256 % 256 ∷ u .tries / 256 / 256 % 256 ∷ u .tries / 256 / 256 / 256 % 256
     ∷ []
 
-pub fields-are : (u : Record) → headPayload u ≡ fieldsOf u ++ padded (2 * maxVariables) (variablesBytes (kindsIn u))
+-- byte 67
+abbrev pub markBytes : Record → List ℕ
+markBytes u = markNumber (u .mark) % 256 ∷ []
+
+pub fields-are : (u : Record) → headPayload u ≡ fieldsOf u ++ padded (2 * maxVariables) (variablesBytes (kindsIn u)) ++ markBytes u
 unfolding headPayload littleOf
 fields-are u = refl
 
@@ -99,23 +105,37 @@ padded-twice size m a b h k =
     ∙ ap (λ (x : List ℕ). a ++ b ++ x) (replicate-append-replicate (m - length b) (size - length (a ++ (b ++ z))) 0)
     ∙ ap (λ (i : ℕ). a ++ b ++ replicate i 0) c
 
--- so the variables need no zeros of their own
-pub head-padded : (u : Record) (o : List ℕ) → length o ≡ payloadAt → length (kindsIn u) ≤ maxVariables
-    → padded checkAt (o ++ (fieldsOf u ++ variablesBytes (kindsIn u))) ≡ padded checkAt (o ++ headPayload u)
-head-padded u o e few =
-    let v : List ℕ = variablesBytes (kindsIn u) in
-    let n : length v ≡ 2 * length (kindsIn u) = length-variables (kindsIn u) in
-    ap (padded checkAt) (sym (append-assoc o (fieldsOf u) v))
-    ∙ sym (padded-twice checkAt (2 * maxVariables) (o ++ fieldsOf u) v (omega (arith, length-append o (fieldsOf u))) (omega arith))
-    ∙ ap (padded checkAt) (append-assoc o (fieldsOf u) (padded (2 * maxVariables) v) ∙ ap (λ (x : List ℕ). o ++ x) (sym (fields-are u)))
+-- a byte behind the others, in the place of the first zero
+padded-set : (size : ℕ) (a : List ℕ) (v : ℕ) → length a < size → set (padded size a) (length a) v ≡ padded size (a ++ (v ∷ []))
+padded-set size a v h =
+    let n : length (a ++ (v ∷ [])) ≡ suc (length a) = length-append a (v ∷ []) ∙ omega arith in
+    let d : size - length a ≡ suc (size - length (a ++ (v ∷ []))) = omega arith in
+    ap (λ (i : ℕ). set (a ++ replicate i 0) (length a) v) d
+    ∙ set-append-seam a 0 (replicate (size - length (a ++ (v ∷ []))) 0) v
+    ∙ sym (append-assoc a (v ∷ []) (replicate (size - length (a ++ (v ∷ []))) 0))
 
 pub head-is : (u : Record) (base b r : List ℕ) → length (kindsIn u) ≤ maxVariables → base ≡ openingOf (opening headKind 0) ++ replicate checkAt 0
-    → b ≡ sets (sets base lettersAt (fieldsOf u)) variablesAt (variablesBytes (kindsIn u)) → r ≡ sealed (take checkAt b) → r ≡ headOf u
+    → b ≡ sets (sets base lettersAt (fieldsOf u)) variablesAt (variablesBytes (kindsIn u)) → (m : ℕ) → m ≡ markNumber (u .mark) → r ≡ sealed (take checkAt (set b markAt m)) → r ≡ headOf u
 unfolding headOf blockOf
-head-is u base b r few e eb q =
+head-is u base b r few e eb m em q =
     let v : List ℕ = variablesBytes (kindsIn u) in
     let o : List ℕ = openingOf (opening headKind 0) in
-    let n : length v ≡ 2 * length (kindsIn u) = length-variables (kindsIn u) in
+    let f : List ℕ = o ++ fieldsOf u in
+    let w : List ℕ = padded (2 * maxVariables) v in
+    let no : length o ≡ payloadAt = length-opening (opening headKind 0) in
+    let nf : length f ≡ variablesAt = length-append o (fieldsOf u) ∙ ap (λ (i : ℕ). i + length (fieldsOf u)) no in
+    let nv : length v ≡ 2 * length (kindsIn u) = length-variables (kindsIn u) in
+    let nw : length (f ++ w) ≡ markAt = length-append f w ∙ omega (arith, length-padded (2 * maxVariables) v (omega arith)) in
+    -- the fields and the variables, with zeros behind them
     let s : b ≡ sets (o ++ replicate checkAt 0) payloadAt (fieldsOf u ++ v) = eb ∙ sym (sets-append (fieldsOf u) v base lettersAt) ∙ ap (λ (l : List ℕ). sets l payloadAt (fieldsOf u ++ v)) e in
-    let t : take checkAt b ≡ padded checkAt (o ++ (fieldsOf u ++ v)) = ap (take checkAt) s ∙ laid o (fieldsOf u ++ v) (length-opening (opening headKind 0)) (omega (arith, length-append (fieldsOf u) v)) in
-    q ∙ ap sealed (t ∙ head-padded u o (length-opening (opening headKind 0)) few)
+    let t : take checkAt b ≡ padded checkAt (f ++ w) =
+    ap (take checkAt) s ∙ laid o (fieldsOf u ++ v) no (omega (arith, length-append (fieldsOf u) v))
+    ∙ ap (padded checkAt) (sym (append-assoc o (fieldsOf u) v)) ∙ sym (padded-twice checkAt (2 * maxVariables) f v (omega arith) (omega arith)) in
+    -- and the mark
+    let k : take checkAt (set b markAt m) ≡ padded checkAt (f ++ w ++ (m ∷ [])) =
+    take-set-lt checkAt b markAt m (omega arith) ∙ ap₂ (λ (l : List ℕ) (i : ℕ). set l i m) t (sym nw) ∙ padded-set checkAt (f ++ w) m (omega arith) in
+    let low : m ≡ markNumber (u .mark) % 256 = em ∙ sym (mod-eq-of-lt (omega (arith, mark-low (u .mark)))) in
+    let p : f ++ w ++ (m ∷ []) ≡ o ++ headPayload u =
+    ap (λ (i : ℕ). f ++ w ++ (i ∷ [])) low ∙ ap (λ (l : List ℕ). l ++ markBytes u) (append-assoc o (fieldsOf u) w)
+    ∙ append-assoc o (fieldsOf u ++ w) (markBytes u) ∙ ap (λ (l : List ℕ). o ++ l) (sym (fields-are u)) in
+    q ∙ ap sealed (k ∙ ap (padded checkAt) p)

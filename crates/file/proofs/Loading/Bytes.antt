@@ -14,7 +14,7 @@ use Rattle.vectors.specs.Bounds.{maxInputs, maxVariables}
 use Rattle.vectors.specs.Variable.{faulty}
 use Rattle.vectors.proofs.Variables.Faults.{right-one, right-two}
 use Rattle.record.specs.declared.Record.{Record}
-use Rattle.record.specs.Record.{kindsIn}
+use Rattle.record.specs.Record.{markNumber, kindsIn}
 use Rattle.record.specs.Tables.{Tables}
 use Rattle.record.specs.Formed.{sound}
 use Rattle.record.proofs.Formed.{well-formed-facts}
@@ -87,7 +87,8 @@ payload-bytes u h =
     let hd : Bytes d = join c (littleOf 2 (u .k)) hc (little-bytes 2 (u .k)) in
     let he : Bytes e = join d (littleOf 2 (u .cells)) hd (little-bytes 2 (u .cells)) in
     let hf : Bytes f = join e (littleOf 4 (u .tries)) he (little-bytes 4 (u .tries)) in
-    join f (padded (2 * maxVariables) (variablesBytes (kindsIn u))) hf (padded-bytes (2 * maxVariables) (variablesBytes (kindsIn u)) h)
+    let w : List ℕ = padded (2 * maxVariables) (variablesBytes (kindsIn u)) in
+    join (f ++ w) (littleOf 1 (markNumber (u .mark))) (join f w hf (padded-bytes (2 * maxVariables) (variablesBytes (kindsIn u)) h)) (little-bytes 1 (markNumber (u .mark)))
 
 pub file-bytes : (u : Record) (t : Tables) → sound u t ≡ true → Bytes (fileOf u t)
 unfolding fileOf fileWith headOf

@@ -32,7 +32,7 @@ roomy-long u s t h r =
     )
 
 pub same-record : (u : Record) → SameRecord u u
-same-record u = record { n = refl; p = refl; n1 = refl; k = refl; cells = refl; tries = refl; variables = refl; kept = refl }
+same-record u = record { n = refl; p = refl; n1 = refl; k = refl; cells = refl; tries = refl; variables = refl; mark = refl; kept = refl }
 
 module _ (u : Record) (s t : Tables) (h : sound u s ≡ true) where
   abbrev file : List ℕ

@@ -83,7 +83,7 @@ outcome-side r n n1 ks cells vs t z = rw (outcome-accepted n n1 ks cells vs t r 
 -- ---- variables chosen by rule
 
 module _ (n degree cells : ℕ) (vs : List ℕ) (t : Tables) where
-  chosen-fits : buildChosen n degree cells vs t .built .refusal ≡ 0 → WordsFit (buildChosen n degree cells vs t .built .unit) (buildChosen n degree cells vs t .tables)
+  pub chosen-fits : buildChosen n degree cells vs t .built .refusal ≡ 0 → WordsFit (buildChosen n degree cells vs t .built .unit) (buildChosen n degree cells vs t .tables)
   unfolding buildChosen
   chosen-fits = outcome-fits (chosenRefusal n degree ks cells vs t) n (rowsShare (length ks)) _ ks cells vs t (chosen-passed n degree cells vs t)
     where
@@ -106,7 +106,7 @@ carried-chosen-demand-3 into roomy n degree cells vs t =
 -- ---- variables given by the caller
 
 module _ (n : ℕ) (variables : List Variable) (p n1 cells : ℕ) (vs : List ℕ) (t : Tables) (slots : length variables ≡ maxVariables) where
-  given-fits : buildGiven n variables p n1 cells vs t .built .refusal ≡ 0 → WordsFit (buildGiven n variables p n1 cells vs t .built .unit) (buildGiven n variables p n1 cells vs t .tables)
+  pub given-fits : buildGiven n variables p n1 cells vs t .built .refusal ≡ 0 → WordsFit (buildGiven n variables p n1 cells vs t .built .unit) (buildGiven n variables p n1 cells vs t .tables)
   unfolding buildGiven
   given-fits = outcome-fits (givenRefusal n p n1 (kindsOf (take p variables)) cells vs t) n n1 _ (kindsOf (take p variables)) cells vs t (given-passed n variables p n1 cells vs t slots)
 

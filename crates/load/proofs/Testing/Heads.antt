@@ -2,30 +2,32 @@
 use mathlib.Core.Path.{_≡_, refl, sym, ap, ap₂, _∙_}
 use mathlib.Core.Bool.{Bool, true, false, _&&_}
 use mathlib.Core.List.{List, [], _∷_, _++_, append-assoc}
-use Prim.Native.Nat.{ℕ, zero, suc, _+_, _-_, _*_, _≤_, _<_}
+use Prim.Native.Nat.{ℕ, zero, suc, _+_, _-_, _*_, _%_, _≤_, _<_}
+use native.Mathlib.Nat.{mod-eq-of-lt}
 use native.Mathlib.Omega.{arith}
-use lib.Dec.{eqb}
-use lib.ListN.{length, getD, take, drop, length-append, length-drop}
-use lib.Seq.{length-take-le, take-add, drop-drop, drop-cons}
+use lib.Dec.{eqb, leb}
+use lib.ListN.{length, getD, take, drop, replicate, length-append, length-drop, length-replicate}
+use lib.Seq.{length-take-le, take-all, take-add, drop-drop, drop-cons}
 use borrow.Author.Tests.{eqb-true}
-use Rattle.lists.proofs.Tests.{and-unit}
+use Rattle.lists.specs.Members.{every}
+use Rattle.lists.proofs.Tests.{and-unit, and-assoc}
 use Rattle.lists.proofs.Entries.Alls.{all-take, all-drop}
 use Rattle.lists.proofs.Entries.Parts.{part-take}
 use Rattle.vectors.specs.Bounds.{maxVariables}
-use Rattle.record.specs.Record.{recordOf, kindsIn}
+use Rattle.record.specs.Record.{markNumber, markOf, recordOf, kindsIn}
+use Rattle.record.proofs.MarkNumbers.{mark-low, mark-known}
 use Rattle.block.specs.declared.Opening.{Opening}
-use Rattle.block.specs.Bytes.{littleOf, numberAt}
-use Rattle.block.specs.Block.{blockSize, payloadAt, openingOf, blockOf, sealed, same, rightCheck}
+use Rattle.block.specs.Bytes.{littleOf, valueOf, numberAt}
+use Rattle.block.specs.Block.{blockSize, payloadAt, checkAt, openingOf, blockOf, same, rightCheck}
 use Rattle.block.specs.Look.{blankFrom, laidOut}
-use Rattle.block.proofs.Laying.Words.{length-opening}
 use Rattle.block.proofs.Reading.Same.{same-self, same-append}
 use Rattle.block.proofs.Reading.Numbers.{Bytes, little-value}
-use Rattle.block.proofs.Reading.Laid.{block-same}
-use Rattle.file.specs.Layout.{headKind, letters, lettersAt, nAt, pAt, n1At, kAt, cellsAt, triesAt, variablesAt}
-use Rattle.file.specs.File.{opening, variableBytes, variablesBytes, headOf}
+use Rattle.block.proofs.Reading.Laid.{zeros-same, block-same}
+use Rattle.file.specs.Layout.{headKind, letters, lettersAt, nAt, pAt, n1At, kAt, cellsAt, triesAt, variablesAt, markAt, freeAt}
+use Rattle.file.specs.File.{opening, variableBytes, variablesBytes, headPayload, headOf}
 use Rattle.file.specs.Decode.{kindOf, kindsFrom, recordIn}
-use Rattle.file.proofs.Laying.Heads.{fieldsOf, head-padded}
-use Rattle.load.specs.Inner.Laid.{headLaid}
+use Rattle.file.proofs.Laying.Heads.{fieldsOf, markBytes, fields-are}
+use Rattle.load.specs.Inner.Laid.{hasLetters, headLaid}
 use Rattle.load.proofs.Testing.Said.{length-kinds, kinds-are, many-are}
 
 -- ---- the variables
@@ -46,6 +48,9 @@ kinds-back (suc p) at file h =
     drop-cons file at 0 (omega arith) ∙ ap (λ (l : List ℕ). getD file at 0 ∷ l) (drop-cons file (suc at) 0 (omega arith)) in
     ap₂ (λ (x y : List ℕ). x ++ y) (two-bytes (getD file at 0) (getD file (suc at) 0)) (kinds-back p (suc (suc at)) file (omega arith))
     ∙ sym (ap₂ take e d)
+
+regroup : (a b c d : List ℕ) → a ++ b ++ c ++ d ≡ a ++ (b ++ (c ++ d))
+regroup a b c d = simp append-assoc
 
 -- ---- the fields
 
@@ -85,53 +90,115 @@ module _ (file : List ℕ) (long : blockSize ≤ length file) (bytes : Bytes fil
       let f = field-back 4 triesAt file (omega arith) bytes in
       cc (joined 2 4 cellsAt file, joined 2 6 kAt file, joined 1 8 n1At file, joined 1 9 pAt file, joined 1 10 nAt file)
 
-  module _ (few : p ≤ maxVariables) where
-    -- the head's bytes from 8 on, as far as they are used
-    abbrev rest : List ℕ
-    rest = take (11 + 2 * p) (drop nAt file)
+  -- ---- the mark
 
-    payload-is : fieldsOf (recordIn file) ++ variablesBytes (kindsIn (recordIn file)) ≡ letters ++ rest
+  mark-byte : take 1 (drop markAt file) ≡ getD file markAt 0 ∷ []
+  mark-byte = ap (take 1) (drop-cons file markAt 0 (omega arith))
+
+  mark-is : markBytes (recordIn file) ≡ markNumber (markOf (getD file markAt 0)) % 256 ∷ []
+  unfolding recordIn recordOf numberAt valueOf
+  mark-is = let e : getD file markAt 0 + 256 * 0 ≡ getD file markAt 0 = omega arith in rw (mark-byte, e)
+
+  mark-same : same (markBytes (recordIn file)) (take 1 (drop markAt file)) ≡ leb (getD file markAt 0) 1
+  unfolding same
+  mark-same =
+      let x : ℕ = getD file markAt 0 in
+      let low : markNumber (markOf x) % 256 ≡ markNumber (markOf x) = mod-eq-of-lt (omega (arith, mark-low (markOf x))) in
+      ap₂ same mark-is mark-byte ∙ ap (λ (i : ℕ). eqb i x && true) low ∙ and-unit (eqb (markNumber (markOf x)) x) ∙ mark-known x
+
+  module _ (few : p ≤ maxVariables) where
+    -- the head's bytes from 8 on, as far as the variables go, and the zeros behind them
+    abbrev used : List ℕ
+    used = take (11 + 2 * p) (drop nAt file)
+
+    abbrev spare : ℕ
+    spare = 2 * maxVariables - 2 * p
+
+    abbrev payload : List ℕ
+    payload = letters ++ (used ++ (replicate spare 0 ++ markBytes (recordIn file)))
+
+    payload-is : headPayload (recordIn file) ≡ payload
     payload-is =
-        let v : variablesBytes (kindsIn (recordIn file)) ≡ take (2 * p) (drop variablesAt file) = ap variablesBytes (kinds-are file) ∙ kinds-back p variablesAt file (omega arith) in
-        ap₂ (λ (x y : List ℕ). x ++ y) fields-split v
+        let f : List ℕ = fieldsOf (recordIn file) in
+        let v : List ℕ = variablesBytes (kindsIn (recordIn file)) in
+        let z : List ℕ = replicate (2 * maxVariables - length v) 0 in
+        let m : List ℕ = markBytes (recordIn file) in
+        let ev : v ≡ take (2 * p) (drop variablesAt file) = ap variablesBytes (kinds-are file) ∙ kinds-back p variablesAt file (omega arith) in
+        let nv : length v ≡ 2 * p = ap length ev ∙ length-take-le (2 * p) (drop variablesAt file) (omega (arith, length-drop variablesAt file)) in
+        let e : f ++ v ≡ letters ++ used =
+        ap₂ (λ (x y : List ℕ). x ++ y) fields-split ev
         ∙ ap (λ (x : List ℕ). letters ++ x ++ take (2 * p) (drop variablesAt file)) numbers-back
         ∙ append-assoc letters (take 11 (drop nAt file)) (take (2 * p) (drop variablesAt file))
-        ∙ ap (λ (x : List ℕ). letters ++ x) (joined 11 (2 * p) nAt file)
+        ∙ ap (λ (x : List ℕ). letters ++ x) (joined 11 (2 * p) nAt file) in
+        fields-are (recordIn file)
+        ∙ ap (λ (x : List ℕ). x ++ m) (sym (append-assoc f v z))
+        ∙ ap₂ (λ (x : List ℕ) (i : ℕ). x ++ replicate (2 * maxVariables - i) 0 ++ m) e nv
+        ∙ regroup letters used (replicate spare 0) m
 
     abbrev o : Opening
     o = opening headKind 0
 
-    head-is : headOf (recordIn file) ≡ blockOf o (letters ++ rest)
-    unfolding headOf blockOf
-    head-is =
-        let n : length (kindsIn (recordIn file)) ≤ maxVariables = omega (arith, ap length (kinds-are file), length-kinds p variablesAt file) in
-        ap sealed (sym (head-padded (recordIn file) (openingOf o) (length-opening o) n))
-        ∙ ap (λ (q : List ℕ). blockOf o q) payload-is
-
     abbrev b : List ℕ
     b = take blockSize file
 
-    payload-same : same (letters ++ rest) (take (length (letters ++ rest)) (drop payloadAt b)) ≡ same letters (take 4 (drop lettersAt file))
+    -- the bytes that the payload stands for
+    payload-at : take (freeAt - payloadAt) (drop payloadAt b) ≡ take 4 (drop lettersAt file) ++ (used ++ (take spare (drop (variablesAt + 2 * p) file) ++ take 1 (drop markAt file)))
+    payload-at =
+        let e : variablesAt + 2 * p + spare ≡ markAt = omega arith in
+        let d : 11 + 2 * p + (spare + 1) ≡ 60 = omega arith in
+        let l : nAt + (11 + 2 * p) ≡ variablesAt + 2 * p = omega arith in
+        let last : take spare (drop (variablesAt + 2 * p) file) ++ take 1 (drop markAt file) ≡ take (spare + 1) (drop (variablesAt + 2 * p) file) =
+        ap (λ (i : ℕ). take spare (drop (variablesAt + 2 * p) file) ++ take 1 (drop i file)) (sym e) ∙ joined spare 1 (variablesAt + 2 * p) file in
+        let from : used ++ take (spare + 1) (drop (variablesAt + 2 * p) file) ≡ take 60 (drop nAt file) =
+        ap (λ (i : ℕ). used ++ take (spare + 1) (drop i file)) (sym l) ∙ joined (11 + 2 * p) (spare + 1) nAt file ∙ ap (λ (i : ℕ). take i (drop nAt file)) d in
+        part-take (freeAt - payloadAt) payloadAt blockSize file (omega arith)
+        ∙ sym (joined 4 60 payloadAt file)
+        ∙ sym (ap (λ (x : List ℕ). take 4 (drop lettersAt file) ++ x) (ap (λ (x : List ℕ). used ++ x) last ∙ from))
+
+    blank-same : same (replicate spare 0) (take spare (drop (variablesAt + 2 * p) file)) ≡ blankFrom (variablesAt + 2 * p) (take markAt file)
+    unfolding blankFrom
+    blank-same =
+        let at : ℕ = variablesAt + 2 * p in
+        let n : length (take markAt file) ≡ markAt = length-take-le markAt file (omega arith) in
+        let m : length (drop at (take markAt file)) ≡ spare = length-drop at (take markAt file) ∙ omega arith in
+        let e : drop at (take checkAt (take markAt file)) ≡ take spare (drop at file) =
+        ap (drop at) (take-all checkAt (take markAt file) (omega arith)) ∙ sym (take-all spare (drop at (take markAt file)) (omega arith)) ∙ part-take spare at markAt file (omega arith) in
+        zeros-same spare (take spare (drop at file)) (length-take-le spare (drop at file) (omega (arith, length-drop at file))) ∙ ap (every (λ b. eqb b 0)) (sym e)
+
+    length-payload : length payload ≡ freeAt - payloadAt
+    length-payload =
+        let z : List ℕ = replicate spare 0 in
+        let m : List ℕ = markBytes (recordIn file) in
+        let nu : length used ≡ 11 + 2 * p = length-take-le (11 + 2 * p) (drop nAt file) (omega (arith, length-drop nAt file)) in
+        length-append letters (used ++ (z ++ m)) ∙ omega (arith, length-append used (z ++ m), length-append z m, length-replicate {A = ℕ} spare 0)
+
+    payload-same : same payload (take (freeAt - payloadAt) (drop payloadAt b)) ≡ (hasLetters file && (blankFrom (variablesAt + 2 * p) (take markAt file) && leb (getD file markAt 0) 1))
+    unfolding hasLetters
     payload-same =
-        let nr : length rest ≡ 11 + 2 * p = length-take-le (11 + 2 * p) (drop nAt file) (omega (arith, length-drop nAt file)) in
-        let nl : length (letters ++ rest) ≡ 4 + (11 + 2 * p) = length-append letters rest ∙ ap (λ (i : ℕ). 4 + i) nr in
-        let e : take (length (letters ++ rest)) (drop payloadAt b) ≡ take 4 (drop lettersAt file) ++ rest =
-        ap (λ (i : ℕ). take i (drop payloadAt b)) nl ∙ part-take (4 + (11 + 2 * p)) payloadAt blockSize file (omega arith) ∙ sym (joined 4 (11 + 2 * p) payloadAt file) in
-        ap (same (letters ++ rest)) e
-        ∙ same-append letters rest (take 4 (drop lettersAt file)) rest (sym (length-take-le 4 (drop lettersAt file) (omega (arith, length-drop lettersAt file))))
-        ∙ ap (λ (t : Bool). same letters (take 4 (drop lettersAt file)) && t) (same-self rest)
-        ∙ and-unit (same letters (take 4 (drop lettersAt file)))
+        let z : List ℕ = replicate spare 0 in
+        let m : List ℕ = markBytes (recordIn file) in
+        let zb : List ℕ = take spare (drop (variablesAt + 2 * p) file) in
+        let mb : List ℕ = take 1 (drop markAt file) in
+        let nz : length z ≡ length zb = length-replicate spare 0 ∙ sym (length-take-le spare (drop (variablesAt + 2 * p) file) (omega (arith, length-drop (variablesAt + 2 * p) file))) in
+        ap (same payload) payload-at
+        ∙ same-append letters (used ++ (z ++ m)) (take 4 (drop lettersAt file)) (used ++ (zb ++ mb)) (sym (length-take-le 4 (drop lettersAt file) (omega (arith, length-drop lettersAt file))))
+        ∙ ap (λ (t : Bool). hasLetters file && t)
+        (same-append used (z ++ m) used (zb ++ mb) refl
+        ∙ ap₂ (λ (x y : Bool). x && y) (same-self used) (same-append z m zb mb nz ∙ ap₂ (λ (x y : Bool). x && y) blank-same mark-same))
 
     pub head-same : rightCheck b ≡ true → same (headOf (recordIn file)) b ≡ headLaid (recordIn file .p) file
-    unfolding headLaid laidOut
+    unfolding headLaid laidOut headOf
     head-same right =
-        let nr : length rest ≡ 11 + 2 * p = length-take-le (11 + 2 * p) (drop nAt file) (omega (arith, length-drop nAt file)) in
-        let nl : length (letters ++ rest) ≡ 4 + (11 + 2 * p) = length-append letters rest ∙ ap (λ (i : ℕ). 4 + i) nr in
-        let at : payloadAt + length (letters ++ rest) ≡ variablesAt + 2 * recordIn file .p = omega (arith, many-are file) in
-        ap (λ (l : List ℕ). same l b) head-is
-        ∙ block-same o (letters ++ rest) b (length-take-le blockSize file long) (omega arith) right
-        ∙ ap₂ (λ (t : Bool) (i : ℕ). (same (openingOf o) (take payloadAt b) && t) && blankFrom i b) payload-same at
-        ∙ swapped (same (openingOf o) (take payloadAt b)) (same letters (take 4 (drop lettersAt file))) (blankFrom (variablesAt + 2 * recordIn file .p) b)
+        let z : Bool = blankFrom (variablesAt + 2 * p) (take markAt file) in
+        let k : Bool = leb (getD file markAt 0) 1 in
+        ap (λ (q : List ℕ). same (blockOf o q) b) payload-is
+        ∙ block-same o payload b (length-take-le blockSize file long) (omega (arith, length-payload)) right
+        ∙ ap (λ (i : ℕ). (same (openingOf o) (take payloadAt b) && same payload (take i (drop payloadAt b))) && blankFrom (payloadAt + i) b) length-payload
+        ∙ ap (λ (t : Bool). (same (openingOf o) (take payloadAt b) && t) && blankFrom freeAt b) payload-same
+        ∙ swapped (same (openingOf o) (take payloadAt b)) (hasLetters file && (z && k)) (blankFrom freeAt b)
+        ∙ and-assoc (laidOut o freeAt b) (hasLetters file) (z && k)
+        ∙ and-assoc (laidOut o freeAt b && hasLetters file) z k
+        ∙ ap (λ (i : ℕ). laidOut o freeAt b && hasLetters file && blankFrom (variablesAt + 2 * i) (take markAt file) && k) (sym (many-are file))
       where
         swapped : (x y z : Bool) → ((x && y) && z) ≡ ((x && z) && y)
         swapped false y z = refl

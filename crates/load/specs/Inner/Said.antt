@@ -7,9 +7,9 @@ use Rattle.vectors.specs.Bounds.{maxVariables}
 use Rattle.span.specs.Within.{inputsIn, within}
 use Rattle.span.specs.Span.{kept}
 use Rattle.record.specs.declared.Record.{Record}
-use Rattle.record.specs.Record.{variablesOf, excessOf}
+use Rattle.record.specs.Record.{markOf, variablesOf, excessOf}
 use Rattle.block.specs.Bytes.{numberAt}
-use Rattle.file.specs.Layout.{nAt, pAt, n1At, kAt, cellsAt, triesAt, variablesAt}
+use Rattle.file.specs.Layout.{nAt, pAt, n1At, kAt, cellsAt, triesAt, variablesAt, markAt}
 use Rattle.file.specs.Decode.{kindsFrom}
 
 -- the variables: p of them, or the 24 that there are
@@ -31,4 +31,5 @@ saidIn file =
       tries = numberAt 4 triesAt file;
       excess = excessOf (numberAt 1 pAt file) (numberAt 2 kAt file);
       variables = variablesOf (numberAt 1 n1At file) (kindsSaid file);
+      mark = markOf (numberAt 1 markAt file);
     }

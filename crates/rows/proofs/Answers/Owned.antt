@@ -1,19 +1,16 @@
 -- The vectors as their owner writes them: an index alone is changed. Assumes nothing.
-use Prim.Native.Nat.{ℕ, zero, suc, max}
+use Prim.Native.Nat.{ℕ}
 use native.Mathlib.Nat.{zero-add}
-use mathlib.Core.Path.{_≡_, refl, sym, ap, ap₂, _∙_}
-use mathlib.Core.Bool.{Bool, true, false, _&&_}
+use mathlib.Core.Path.{_≡_, refl, ap, ap₂}
+use mathlib.Core.Bool.{Bool, true, false}
 use mathlib.Core.List.{List, [], _∷_, map}
-use lib.Dec.{eqb, ltb}
-use lib.ListN.{length}
+use lib.Dec.{eqb}
 use Rattle.lists.specs.Members.{All}
 use Rattle.rows.specs.Care.{Care, keep, inRow}
-use Rattle.rows.specs.Fit.{cellOf, isFree, inside, clear, freeFrom, reach, needed, fitFrom, firstFit}
-use Rattle.rows.specs.declared.room.Fit.the-variants.{None}
+use Rattle.rows.specs.Fit.{firstFit}
 use Rattle.rows.specs.Answer.{owned}
 use Rattle.rows.specs.Inner.Chains.{emptied, undone}
-use Rattle.rows.proofs.Fits.First.{step-out, step-here, step-on}
-use Rattle.rows.proofs.Fits.Needed.{free-same}
+use Rattle.rows.proofs.Fits.Columns.{same-fit}
 
 module _ (owner : ℕ) where
   pub owned-row : (r : ℕ) (cs : List Care) → inRow r (map (owned owner) cs) ≡ map (owned owner) (inRow r cs)
@@ -26,44 +23,9 @@ module _ (owner : ℕ) where
       go true e = ap (λ (l : List Care). owned owner c ∷ l) e
       go false e = e
 
-  owned-inside : (cells d : ℕ) (m : List Care) → inside cells d (map (owned owner) m) ≡ inside cells d m
-  unfolding inside
-  owned-inside cells d [] = refl
-  owned-inside cells d (c ∷ m) = ap (λ (b : Bool). ltb (cellOf c d) cells && b) (owned-inside cells d m)
-
-  owned-clear : (g : List ℕ) (d : ℕ) (m : List Care) → clear g d (map (owned owner) m) ≡ clear g d m
-  unfolding clear
-  owned-clear g d [] = refl
-  owned-clear g d (c ∷ m) = ap (λ (b : Bool). isFree g (cellOf c d) && b) (owned-clear g d m)
-
-  owned-reach : (d : ℕ) (m : List Care) → reach d (map (owned owner) m) ≡ reach d m
-  unfolding reach
-  owned-reach d [] = refl
-  owned-reach d (c ∷ m) = ap (max (suc (cellOf c d))) (owned-reach d m)
-
-  owned-needed : (g : List ℕ) (m : List Care) → needed g (map (owned owner) m) ≡ needed g m
-  unfolding needed
-  owned-needed g m =
-      owned-reach (freeFrom (length g) 0 g (map (owned owner) m)) m
-      ∙ ap (λ (d : ℕ). reach d m) (free-same g g (map (owned owner) m) m (λ d. owned-clear g d m) (length g) 0)
-
-  owned-from : (f d : ℕ) (g : List ℕ) (m : List Care) → fitFrom f d g (map (owned owner) m) ≡ fitFrom f d g m
-  unfolding fitFrom
-  owned-from zero d g m = ap (None d) (owned-needed g m)
-  owned-from (suc f) d g m = go (inside (length g) d m) refl (clear g d m) refl (owned-from f (suc d) g m)
-    where
-      go : (a : Bool) → inside (length g) d m ≡ a → (b : Bool) → clear g d m ≡ b → fitFrom f (suc d) g (map (owned owner) m) ≡ fitFrom f (suc d) g m
-          → fitFrom (suc f) d g (map (owned owner) m) ≡ fitFrom (suc f) d g m
-      go false e b q i = step-out g (map (owned owner) m) f d (owned-inside (length g) d m ∙ e) ∙ ap (None d) (owned-needed g m) ∙ sym (step-out g m f d e)
-      go true e true q i =
-          step-here g (map (owned owner) m) f d (owned-inside (length g) d m ∙ e) (owned-clear g d m ∙ q) ∙ sym (step-here g m f d e q)
-      go true e false q i =
-          step-on g (map (owned owner) m) f d (owned-inside (length g) d m ∙ e) (owned-clear g d m ∙ q) ∙ i ∙ sym (step-on g m f d e q)
-
   -- the first fit is the same
   pub owned-fit : (g : List ℕ) (m : List Care) → firstFit g (map (owned owner) m) ≡ firstFit g m
-  unfolding firstFit
-  owned-fit g m = owned-from (suc (length g)) 0 g m
+  owned-fit g m = same-fit (owned owner) (λ c. refl) g m
 
   -- what holds of the vectors by their rows and columns
   pub all-owned : (Q : Care → Type 0) (cs : List Care) → All Q (map (owned owner) cs) → All (λ c. Q (owned owner c)) cs

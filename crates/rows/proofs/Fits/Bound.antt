@@ -12,8 +12,8 @@ use Rattle.lists.proofs.Tests.{and-false}
 use Rattle.rows.specs.Care.{Care}
 use Rattle.rows.specs.Fit.{cellOf, isFree, inside, clear, fitsAt, firstFit}
 use Rattle.rows.specs.Demand.{filled}
-use Rattle.rows.specs.declared.room.Fit.{Fit}
-use Rattle.rows.specs.declared.room.Fit.the-variants.{At, None}
+use Rattle.rows.specs.declared.Fit.{Fit}
+use Rattle.rows.specs.declared.Fit.the-variants.{At, None}
 use Rattle.rows.proofs.Fits.First.{inside-less, fits-in, fit-at, fit-none}
 use Rattle.rows.proofs.Fits.Filled.{one, one-pos, sumTo, sum-ones, sum-add, filled-window}
 

@@ -12,8 +12,8 @@ use borrow.Author.Tests.{ltb-true, lt-ltb, le-ltb}
 use Rattle.lists.proofs.Tests.{and-true, le-or-lt}
 use Rattle.rows.specs.Care.{Care}
 use Rattle.rows.specs.Fit.{cellOf, inside, clear, fitsAt, needed, fitFrom, firstFit}
-use Rattle.rows.specs.declared.room.Fit.{Fit}
-use Rattle.rows.specs.declared.room.Fit.the-variants.{At, None}
+use Rattle.rows.specs.declared.Fit.{Fit}
+use Rattle.rows.specs.declared.Fit.the-variants.{At, None}
 
 -- ---- the tests
 
@@ -130,7 +130,7 @@ module _ (g : List ℕ) (c : Care) (cs : List Care) where
   unfolding firstFit
   answer-first = answer (suc (length g)) 0 (omega arith) (λ e l. absurd (omega arith))
 
-first-empty : (g : List ℕ) → firstFit g [] ≡ At 0
+pub first-empty : (g : List ℕ) → firstFit g [] ≡ At 0
 unfolding firstFit inside clear
 first-empty g = step-here g [] (length g) 0 refl refl
 

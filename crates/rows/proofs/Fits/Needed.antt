@@ -12,8 +12,8 @@ use borrow.Author.Tests.{ltb-true, lt-ltb}
 use Rattle.lists.proofs.Tests.{and-true, le-or-lt}
 use Rattle.rows.specs.Care.{Care}
 use Rattle.rows.specs.Fit.{cellOf, inside, clear, freeFrom, reach, needed, firstFit}
-use Rattle.rows.specs.declared.room.Fit.{Fit}
-use Rattle.rows.specs.declared.room.Fit.the-variants.{At, None}
+use Rattle.rows.specs.declared.Fit.{Fit}
+use Rattle.rows.specs.declared.Fit.the-variants.{At, None}
 use Rattle.rows.proofs.Fits.First.{inside-less, fits-in, fits-shut, fits-is, fit-at, fit-none, fit-is}
 
 -- ---- how far a row reaches

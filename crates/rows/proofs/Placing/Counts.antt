@@ -15,7 +15,7 @@ use Rattle.rows.specs.Care.{Care, inRow, weightOf}
 use Rattle.rows.specs.Fit.{firstFit}
 use Rattle.rows.specs.Place.{State, placeRow, place}
 use Rattle.rows.specs.Demand.{filled, countIn, Bounded, triesOf, boundOf}
-use Rattle.rows.specs.declared.room.Fit.the-variants.{At}
+use Rattle.rows.specs.declared.Fit.the-variants.{At}
 use Rattle.rows.proofs.Fits.Filled.{filled-put}
 use Rattle.rows.proofs.Fits.Bound.{first-le}
 use Rattle.rows.proofs.Placing.Open.{open-not}

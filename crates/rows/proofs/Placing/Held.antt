@@ -17,7 +17,7 @@ use Rattle.rows.specs.Fit.{firstFit, put}
 use Rattle.rows.specs.Place.{State, placeRow}
 use Rattle.rows.specs.Demand.{filled}
 use Rattle.rows.specs.declared.End.the-variants.{All}
-use Rattle.rows.specs.declared.room.Fit.the-variants.{At}
+use Rattle.rows.specs.declared.Fit.the-variants.{At}
 use Rattle.rows.proofs.Fits.First.{fit-at}
 use Rattle.rows.proofs.Fits.Filled.{filled-none}
 use Rattle.rows.proofs.Fits.Cells.{Distinct, in-row, row-in, row-apart, fits-free, put-length, put-other, put-own, put-either}

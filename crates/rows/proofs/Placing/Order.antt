@@ -15,7 +15,7 @@ use Rattle.rows.specs.Care.{Care, inRow, weightOf, openWeight}
 use Rattle.rows.specs.Fit.{firstFit}
 use Rattle.rows.specs.Place.{State, placeRow, place}
 use Rattle.rows.specs.Demand.{Ahead, Falling, Once}
-use Rattle.rows.specs.declared.room.Fit.the-variants.{At}
+use Rattle.rows.specs.declared.Fit.the-variants.{At}
 use Rattle.rows.proofs.Placing.Open.{open-not, open-weight, open-more}
 use Rattle.rows.proofs.Placing.Turns.{Next, at-end}
 

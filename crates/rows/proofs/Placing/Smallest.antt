@@ -11,7 +11,7 @@ use Rattle.rows.specs.Care.{Care, inRow}
 use Rattle.rows.specs.Fit.{firstFit}
 use Rattle.rows.specs.Place.{State, placeRow, place}
 use Rattle.rows.specs.Demand.{cellsOf, Smallest}
-use Rattle.rows.specs.declared.room.Fit.the-variants.{At}
+use Rattle.rows.specs.declared.Fit.the-variants.{At}
 use Rattle.rows.proofs.Fits.First.{fit-at}
 use Rattle.rows.proofs.Placing.Open.{open-not}
 use Rattle.rows.proofs.Placing.Turns.{Next, at-end}

@@ -12,8 +12,8 @@ use Rattle.rows.specs.Fit.{firstFit}
 use Rattle.rows.specs.Place.{State, Placing, placeRow, placeIn, place}
 use Rattle.rows.specs.declared.End.{End}
 use Rattle.rows.specs.declared.End.the-variants.{All, NoFit, Unfit}
-use Rattle.rows.specs.declared.room.Fit.{Fit}
-use Rattle.rows.specs.declared.room.Fit.the-variants.{At, None}
+use Rattle.rows.specs.declared.Fit.{Fit}
+use Rattle.rows.specs.declared.Fit.the-variants.{At, None}
 use Rattle.rows.proofs.Fits.Cells.{put-length}
 use Rattle.rows.proofs.Placing.Heaviest.{is-heaviest}
 use Rattle.rows.proofs.Placing.Open.{countOf, count-all, count-none, open-less}

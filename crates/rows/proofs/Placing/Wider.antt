@@ -21,8 +21,8 @@ use Rattle.rows.specs.Demand.{Columns}
 use Rattle.rows.specs.Needed.{More, places, Keeps, Least, Beside}
 use Rattle.rows.specs.declared.End.{End}
 use Rattle.rows.specs.declared.End.the-variants.{All, NoFit, Unfit}
-use Rattle.rows.specs.declared.room.Fit.{Fit}
-use Rattle.rows.specs.declared.room.Fit.the-variants.{At, None}
+use Rattle.rows.specs.declared.Fit.{Fit}
+use Rattle.rows.specs.declared.Fit.the-variants.{At, None}
 use Rattle.rows.proofs.Fits.First.{fit-none, fit-inside}
 use Rattle.rows.proofs.Fits.Needed.{FirstFree, first-free, needed-is, fit-enough, fit-same, fit-short, none-short, inside-reach, needed-low}
 use Rattle.rows.proofs.Fits.Cells.{in-row, put-length}

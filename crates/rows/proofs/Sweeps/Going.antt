@@ -16,8 +16,8 @@ use Rattle.rows.specs.Place.{State, Placing, place, placeRow}
 use Rattle.rows.specs.Answer.{caresFrom, caresIn, caresOf, owned, left, settle, settled}
 use Rattle.rows.specs.Inner.Chains.{chain, chainOf, Rises, Weighs, weightFrom, headOf, Marked, RowPlaced, undone, Within}
 use Rattle.rows.specs.declared.End.the-variants.{All, NoFit}
-use Rattle.rows.specs.declared.room.Fit.{Fit}
-use Rattle.rows.specs.declared.room.Fit.the-variants.{At, None}
+use Rattle.rows.specs.declared.Fit.{Fit}
+use Rattle.rows.specs.declared.Fit.the-variants.{At, None}
 use Rattle.rows.proofs.Fits.First.{fit-low}
 use Rattle.rows.proofs.Placing.Open.{countOf, count-all, open-less}
 use Rattle.rows.proofs.Chains.Walks.{chain-pos}

@@ -14,7 +14,7 @@ use Rattle.rows.specs.Care.{Care, inRow, openWeight, heaviest}
 use Rattle.rows.specs.Fit.{firstFit}
 use Rattle.rows.specs.Place.{State, Placing, placeRow, placeIn, place}
 use Rattle.rows.specs.declared.End.the-variants.{All, NoFit}
-use Rattle.rows.specs.declared.room.Fit.the-variants.{At, None}
+use Rattle.rows.specs.declared.Fit.the-variants.{At, None}
 use Rattle.rows.proofs.Placing.Heaviest.{is-heaviest}
 use Rattle.rows.proofs.Placing.Open.{countOf, count-all, open-is, open-more, open-shut, open-less}
 use Rattle.rows.proofs.Placing.Turns.{next, place-none, place-stuck, place-more}

@@ -1,15 +1,14 @@
 -- The bits of the cells beside the cells: as they start, after a cell is taken, and what they say of a row. Assumes nothing.
-use Prim.Native.Nat.{ℕ, zero, suc, _+_, _-_, _*_, _/_, _%_, _^_, max, _≤_, _<_}
-use native.Mathlib.Nat.{zero-div}
+use Prim.Native.Nat.{ℕ, _+_, _-_, _*_, _/_, _%_, _^_, max, _≤_, _<_}
 use native.Mathlib.Omega.{arith}
 use mathlib.Core.Path.{_≡_, refl, sym, ap, ap₂, _∙_}
 use mathlib.Core.Bool.{Bool, true, false, _&&_}
 use mathlib.Core.List.{List, [], _∷_}
-use mathlib.Core.Logic.{_⊎_, inl, inr, ⊎-elim}
+use mathlib.Core.Logic.{_⊎_, inl, inr}
 use lib.Bits.{bitOr}
 use lib.Dec.{eqb, ltb}
-use lib.ListN.{length, getD, set, take, replicate, length-set, length-replicate, getD-replicate}
-use lib.Seq.{getD-set-same, getD-set-other, getD-take, take-all}
+use lib.ListN.{length, getD, set, length-set}
+use lib.Seq.{getD-set-same, getD-set-other}
 use borrow.Author.Tests.{ltb-true, ne-eqb, eqb-true, eqb-false}
 use Rattle.lists.proofs.Tests.{and-true, le-or-lt}
 use Rattle.vectors.specs.Bits.{bit}
@@ -107,52 +106,3 @@ pub taken-put : (g taken : List ℕ) (c v : ℕ) → Taken g taken → c < lengt
     → Taken (set g c v) (set taken (c / 64) (bitOr (getD taken (c / 64) 0) (1 * 2 ^ (c % 64) % 2 ^ 64)))
 taken-put g taken c v s l few p =
     taken-more taken c (omega (arith, s .size)) g (set g c v) s (λ z. omega (arith, getD-set-same g c v 0 l)) (λ e n. getD-set-other g c e v 0 n)
-
--- ---- the bits made from the cells: the first i cells are looked at
-
--- the word of a cell among the first i; past them it is 0
-first-in : (g : List ℕ) (i c : ℕ) → c < i → getD (take i g) c 0 ≡ getD g c 0
-first-in g i c l = getD-take i g c 0 l
-
-first-out : (g : List ℕ) (i c : ℕ) → i ≤ c → getD (take i g) c 0 ≡ 0
-first-out g zero c l = refl
-first-out [] (suc i) c l = refl
-first-out (w ∷ g) (suc i) zero l = absurd (omega arith)
-first-out (w ∷ g) (suc i) (suc c) l = first-out g i c (omega arith)
-
-first-next : (g : List ℕ) (i c : ℕ) → (c ≡ i → ⊥) → getD (take (i + 1) g) c 0 ≡ getD (take i g) c 0
-first-next g i c n =
-    ⊎-elim
-    (λ l. first-out g (i + 1) c (omega (arith, n)) ∙ sym (first-out g i c l))
-    (λ l. first-in g (i + 1) c (omega arith) ∙ sym (first-in g i c l))
-    (le-or-lt i c)
-
-pub taken-none : (g taken : List ℕ) → taken ≡ replicate takenWords 0 → Taken (take 0 g) taken
-taken-none g taken e =
-    record {
-      size = ap length e ∙ length-replicate {A = ℕ} takenWords 0;
-      bits = λ c h.
-          ap (λ (l : List ℕ). bitIn l c) e
-          ∙ ap (λ (w : ℕ). bit w (c % 64)) (getD-replicate takenWords (c / 64) 0 0 (omega arith)) ∙ ap (λ (n : ℕ). n % 2) (zero-div (2 ^ (c % 64)));
-    }
-
-module _ (g taken : List ℕ) (i : ℕ) (s : Taken (take i g) taken) where
-  -- the cell i is free
-  pub taken-free : getD g i 0 ≡ 0 → Taken (take (i + 1) g) taken
-  taken-free z = record { size = s .size; bits = λ c h. s .bits c h ∙ ap (λ (w : ℕ). shutBit (eqb w 0)) (sym (same c (eqb c i) refl)) }
-    where
-      same : (c : ℕ) (b : Bool) → eqb c i ≡ b → getD (take (i + 1) g) c 0 ≡ getD (take i g) c 0
-      same c true q = rw (eqb-true c i q) (first-in g (i + 1) i (omega arith) ∙ z ∙ sym (first-out g i i (omega arith)))
-      same c false q = first-next g i c (eqb-false c i q)
-
-  -- the cell i is taken
-  pub taken-shut : i < length g → length g ≤ maxCells → (getD g i 0 ≡ 0 → ⊥)
-      → Taken (take (i + 1) g) (set taken (i / 64) (bitOr (getD taken (i / 64) 0) (1 * 2 ^ (i % 64) % 2 ^ 64)))
-  taken-shut l few z =
-      taken-more taken i (omega (arith, s .size)) (take i g) (take (i + 1) g) s
-      (λ q. z (sym (first-in g (i + 1) i (omega arith)) ∙ q))
-      (first-next g i)
-
--- all cells are passed
-pub taken-all : (g taken : List ℕ) (i : ℕ) → length g ≤ i → Taken (take i g) taken → Taken g taken
-taken-all g taken i l t = rw (take-all i g l) at t

@@ -14,7 +14,7 @@ use Rattle.rows.specs.Care.{Care}
 use Rattle.rows.specs.Fit.{inside, clear, reach, firstFit}
 use Rattle.rows.specs.Inner.Chains.{topFrom, topOf, fitAt}
 use Rattle.rows.specs.Inner.Taken.{takenCells, Taken, shutRow}
-use Rattle.rows.specs.declared.room.Fit.the-variants.{At, None}
+use Rattle.rows.specs.declared.Fit.the-variants.{At, None}
 use Rattle.rows.proofs.Fits.First.{fits-out, fits-shut, fit-none-is}
 use Rattle.rows.proofs.Fits.Needed.{Shut, FirstFree, clear-past, needed-is, fit-enough}
 use Rattle.rows.proofs.Chains.Walks.{inside-yes, inside-no}

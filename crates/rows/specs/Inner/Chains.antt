@@ -8,8 +8,8 @@ use lib.ListN.{length, getD, set}
 use Rattle.rows.specs.Care.{Care, inRow}
 use Rattle.rows.specs.Fit.{firstFit, put}
 use Rattle.rows.specs.Answer.{maxPlaces, rowIn, careOf, caresIn, owned}
-use Rattle.rows.specs.declared.room.Fit.{Fit}
-use Rattle.rows.specs.declared.room.Fit.the-variants.{At, None}
+use Rattle.rows.specs.declared.Fit.{Fit}
+use Rattle.rows.specs.declared.Fit.the-variants.{At, None}
 
 -- ---- a word
 

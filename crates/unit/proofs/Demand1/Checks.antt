@@ -176,11 +176,11 @@ module _ (ks : List Kind) where
   dependent-none n = passes-none spans 0 masks (λ j l e. n j (omega (arith, length-map ks maskOf)) (sym (same-span j) ∙ e))
 
 -- vectors agree exactly when they have one number
-number-agree : (ks : List Kind) (x y : ℕ) → numberOf ks x ≡ numberOf ks y → Agree ks x y
+pub number-agree : (ks : List Kind) (x y : ℕ) → numberOf ks x ≡ numberOf ks y → Agree ks x y
 number-agree [] x y e = tt
 number-agree (k ∷ ks) x y e = let h = number-head k ks x y e in (h .0, number-agree ks x y (h .1))
 
-agree-number : (ks : List Kind) (x y : ℕ) → Agree ks x y → numberOf ks x ≡ numberOf ks y
+pub agree-number : (ks : List Kind) (x y : ℕ) → Agree ks x y → numberOf ks x ≡ numberOf ks y
 unfolding numberOf
 agree-number [] x y a = refl
 agree-number (k ∷ ks) x y a = ap₂ (λ (v w : ℕ). v + 2 * w) (a .0) (agree-number ks x y (a .1))

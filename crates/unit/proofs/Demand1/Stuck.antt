@@ -42,12 +42,12 @@ clear-blocked g d (c ∷ m) h = go (and-false (isFree g (cellOf c d)) (clear g d
     go (inl e) r = (c, inl refl, inr (eqb-false (getD g (cellOf c d) 0) 0 e))
     go (inr e) r = let b = r e in (b .0, inr (b .1), b .2)
 
-not-fits : (g : List ℕ) (d : ℕ) (m : List Care) → fitsAt g d m ≡ false → Blocked g m d
+pub not-fits : (g : List ℕ) (d : ℕ) (m : List Care) → fitsAt g d m ≡ false → Blocked g m d
 unfolding fitsAt
 not-fits g d m h = ⊎-elim (inside-blocked g d m) (clear-blocked g d m) (and-false (inside (length g) d m) (clear g d m) h)
 
 -- not both
-fits-blocked : (g : List ℕ) (m : List Care) (d : ℕ) → Fits g m d → Blocked g m d → ⊥
+pub fits-blocked : (g : List ℕ) (m : List Care) (d : ℕ) → Fits g m d → Blocked g m d → ⊥
 fits-blocked g m d f b = let p = f (b .0) (b .1) in ⊎-elim (λ l. omega (arith, p .0)) (λ n. n (p .1)) (b .2)
 
 -- the smallest at which a row fits

@@ -7,7 +7,7 @@ use Rattle.bridge.proofs.flat.unit.Statement.{statement}
 use Rattle.bridge.proofs.flat.unit.Tie as tie
 
 returns : tie.Need-returns
-returns c = unit-read _ _ _ (toZ-ofZ (record { sfits = c .signed .ok }) ∙ c .signed .ensures) (c .before .before .before .before .before .before .before .before .before .pre)
+returns c = unit-read _ _ _ _ (toZ-ofZ (record { sfits = c .before .before .signed .ok }) ∙ c .before .before .signed .ensures) (c .before .before .before .before .before .before .before .before .before .before .before .pre) (c .mark-of .ensures)
 
 pub unit-spec : {M : Type 1} → statement M
 unit-spec =
@@ -20,6 +20,8 @@ unit-spec =
     (λ c. search needs)
     (λ c. search needs)
     (λ c. search needs)
+    (λ c. search needs)
+    (λ c κs. search needs)
     (λ c. search needs)
     (λ c κs. search needs)
     returns)

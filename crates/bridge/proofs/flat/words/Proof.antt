@@ -9,7 +9,9 @@ use Rattle.bridge.proofs.flat.words.Statement.{statement}
 use Rattle.bridge.proofs.flat.words.Tie as tie
 
 returns : tie.Need-returns
-returns c = flat-written _ _ _ (c .before .before .before .before .twos .ensures ∙ ap (ofZ w64) (toZ-ofZ {z = c .before .before .before .before .before .before .args .unit .excess} (record { sfits = c .before .before .before .before .before .struct-told .given .1 .1 .1 .1 .1 .1 .1 .0 .1 }))) (c .before .write-variables .ensures)
+returns c =
+    let e = toZ-ofZ {z = c .before .before .before .before .before .before .before .args .unit .excess} (record { sfits = c .before .before .before .before .before .before .struct-told .given .1 .1 .1 .1 .1 .1 .1 .0 .1 }) in
+    flat-written _ _ _ _ (c .before .before .before .before .before .twos .ensures ∙ ap (ofZ w64) e) (c .before .before .before .before .mark-number .ensures) (c .before .write-variables .ensures)
 
 pub words-spec : {M : Type 1} → statement M
 words-spec =
@@ -23,6 +25,9 @@ words-spec =
     (λ c. search needs)
     (λ c. search needs)
     (λ c κs. search needs)
+    (λ c. search needs)
+    (λ c κs. search needs)
+    (λ c. search needs)
     (λ c. search needs)
     (λ c. search needs)
     (λ c. search needs)

@@ -7,7 +7,7 @@ use lib.ListN.{length, replicate, length-map}
 use Rattle.lists.proofs.Entries.Members.{all-map}
 use Rattle.vectors.proofs.Variables.Numbers.{kinds-length}
 use Rattle.rows.proofs.Answers.Settled.{same-end, when-all, when-stuck}
-use Rattle.record.specs.Record.{recordOf}
+use Rattle.record.specs.Record.{markBuilt, recordOf}
 use Rattle.build.specs.Build.{accepted, placingOf}
 use Rattle.build.specs.Inner.Ready.{kindsBy}
 use Rattle.build.proofs.Writing.Written.{wide}
@@ -40,7 +40,7 @@ returns c =
     let a = c .before .before .before .before .before .before .before .before .before .before .before .before .place-all in
     let w = when-all (placingOf (s .args .chart .n1) (kindsBy (s .args .chart)) (length (s .args .g .now)) (s .args .vectors .now)) _ _ _ _ _ (a .ensures) (c .before .before .before .before .enum-told .given .1) in
     end-all (s .args .chart .n) (s .args .chart .n1) (kindsBy (s .args .chart)) (s .args .vectors .now) (s .args .h .now) (s .args .g .now) (s .args .aux .now) (s .pre .0 .1) (s .pre .0 .0) _ _ _ _ _ (w .end-is) (w .tries-are)
-    (c .before .before .accept .ensures .0 ∙ ap (λ (d : ℕ). accepted (recordOf (s .args .chart .n) (s .args .chart .n1) (length (s .args .vectors .now)) (kindsBy (s .args .chart)) d (a .result .tries))) (a .kept .1 .1 .1 .0))
+    (c .before .before .accept .ensures .0 ∙ ap (λ (d : ℕ). accepted (recordOf markBuilt (s .args .chart .n) (s .args .chart .n1) (length (s .args .vectors .now)) (kindsBy (s .args .chart)) d (a .result .tries))) (a .kept .1 .1 .1 .0))
     (w .rows-are) (w .cells-are) (c .before .before .accept .ensures .1)
 
 returns-2 : tie.Need-returns-2

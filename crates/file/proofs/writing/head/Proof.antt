@@ -1,4 +1,5 @@
 -- `file::writing::head` meets its contract. Assumes nothing.
+use Prim.Native.Nat.{_≤_}
 use mathlib.Core.Path.{_≡_, sym, _∙_}
 use native.Mathlib.Omega.{arith}
 use lib.ListN.{length, length-map}
@@ -6,7 +7,9 @@ use lib.Seq.{sets, length-sets}
 use borrow.Author.Needs.{needs}
 use Rattle.block.specs.Block.{blockSize}
 use Rattle.block.proofs.Laying.Words.{length-opened}
+use Rattle.vectors.specs.Bounds.{maxVariables}
 use Rattle.vectors.proofs.Variables.Numbers.{kinds-many}
+use Rattle.record.specs.Record.{kindsIn}
 use Rattle.file.specs.Layout.{lettersAt}
 use Rattle.file.proofs.Laying.Heads.{fieldsOf, head-is}
 use Rattle.file.proofs.writing.head.Statement.{statement}
@@ -23,7 +26,10 @@ put-variables-requires : tie.Need-put-variables-requires
 put-variables-requires c κs = fields-long (c .before .before .before .before .before .before .before .before .before .before .before .before .before)
 
 returns : tie.Need-returns
-returns c = let s = c .before .before .before .before .before .before .before .before .before .before .before .before .before .before .before .before .before in head-is (s .args .unit) _ _ _ (omega (arith, kinds-many (s .args .unit .p) (s .args .unit .variables), sym (length-map (s .args .unit .variables) _) ∙ s .good .0 .1 .1 .1 .1 .1 .1 .1 .1 .1 .1 .0 .1 .0 .1)) (c .before .before .before .before .before .before .before .before .before .before .before .before .before .before .before .before .opened .ensures) (c .before .before .put-variables .ensures) (c .sealed .ensures)
+returns c =
+    let s = c .before .before .before .before .before .before .before .before .before .before .before .before .before .before .before .before .before .before in
+    let few : length (kindsIn (s .args .unit)) ≤ maxVariables = omega (arith, kinds-many (s .args .unit .p) (s .args .unit .variables), sym (length-map (s .args .unit .variables) _) ∙ s .good .0 .1 .1 .1 .1 .1 .1 .1 .1 .1 .1 .0 .1 .0 .1) in
+    head-is (s .args .unit) _ _ _ few (c .before .before .before .before .before .before .before .before .before .before .before .before .before .before .before .before .before .opened .ensures) (c .before .before .before .put-variables .ensures) _ (c .before .mark-number .ensures) (c .sealed .ensures)
 
 pub head-spec : {M : Type 1} → statement M
 head-spec =
@@ -70,5 +76,7 @@ head-spec =
     (λ c. search needs)
     slice-aggregate-put-variables
     put-variables-requires
+    (λ c κs. search needs)
+    (λ c. search needs)
     (λ c κs. search needs)
     returns)

@@ -23,8 +23,8 @@ cast-excess-2 c = omega (arith, c .before .before .before .before .number4 .ensu
 
 returns : tie.Need-returns
 returns c =
-    said-made _ _ _ _ _ _ _ _ _ _ _ (c .before .before .before .variables .ensures) (c .before .before .before .before .before .before .before .before .before .number .ensures) (c .before .before .before .before .before .before .before .before .number2 .ensures) (c .before .before .before .before .before .before .before .number3 .ensures) (c .before .before .before .before .before .before .number4 .ensures) (c .before .before .before .before .before .number5 .ensures) (c .before .before .before .before .number6 .ensures)
-    (c .before .before .kept-inputs .ensures) (toZ-ofZ (record { sfits = c .before .excess .ok }) ∙ c .before .excess .ensures) (c .marked .ensures)
+    said-made _ _ _ _ _ _ _ _ _ _ _ _ _ (c .before .before .before .before .before .variables .ensures) (c .before .before .before .before .before .before .before .before .before .before .before .number .ensures) (c .before .before .before .before .before .before .before .before .before .before .number2 .ensures) (c .before .before .before .before .before .before .before .before .before .number3 .ensures) (c .before .before .before .before .before .before .before .before .number4 .ensures) (c .before .before .before .before .before .before .before .number5 .ensures) (c .before .before .before .before .before .before .number6 .ensures)
+    (c .before .before .before .before .kept-inputs .ensures) (toZ-ofZ (record { sfits = c .before .before .before .excess .ok }) ∙ c .before .before .before .excess .ensures) (c .before .before .marked .ensures) (c .before .number7 .ensures) (c .mark-of .ensures)
 
 pub said-spec : {M : Type 1} → statement M
 said-spec =
@@ -40,6 +40,8 @@ said-spec =
     (λ c κs. search needs)
     cast-excess
     cast-excess-2
+    (λ c κs. search needs)
+    (λ c κs. search needs)
     (λ c κs. search needs)
     (λ c κs. search needs)
     returns)

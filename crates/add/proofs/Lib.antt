@@ -1,0 +1,9 @@
+pub mod Adding
+pub mod Demand1
+pub mod Demand2
+pub mod Places
+pub mod Seating
+pub mod Refusing
+pub mod Registered
+pub mod Moving
+pub mod Rungs

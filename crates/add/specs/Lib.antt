@@ -1,0 +1,6 @@
+pub mod Add
+pub mod AddSamples
+pub mod Facts
+pub mod Made
+pub mod Demand1
+pub mod Inner
