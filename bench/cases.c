@@ -52,6 +52,17 @@ static void make_few_cells(struct random *r, struct call *c)
     give_lengths(r, c);
 }
 
+/* Few tries allowed, so that some row makes more; few cells often too. */
+static void make_few_tries(struct random *r, struct call *c)
+{
+    if (one_in(r, 2)) {
+        make_few_cells(r, c);
+    } else {
+        good_call(r, c, one_in(r, 2));
+    }
+    c->allowance = random_below(r, 3 * c->k);
+}
+
 static void make_near(struct random *r, struct call *c)
 {
     c->n = one_in(r, 16) ? random_between(r, 21, 64) : random_between(r, 2, 20);
@@ -207,6 +218,7 @@ const struct kind kinds[] = {
     {"small lists, chosen", 22000, make_small_chosen, EVERY_KEY, 0},
     {"small lists, given", 22000, make_small_given, EVERY_KEY, 0},
     {"few cells", 6000, make_few_cells, EVERY_KEY, 0},
+    {"few tries", 6000, make_few_tries, SOME_KEYS, 0},
     {"near vectors", 6000, make_near, SOME_KEYS, 0},
     {"mid-size lists", 500, make_middle, SOME_KEYS, 1},
     {"large lists", 60, make_large, SOME_KEYS, 2},

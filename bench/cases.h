@@ -20,6 +20,7 @@ struct lengths {
 struct call {
     bool given;
     size_t n, degree, p, n1, L, k;
+    uint64_t allowance;
     struct lengths length;
     uint64_t variables[VARIABLES];
     uint64_t vectors[VECTOR_ROOM];
@@ -34,6 +35,12 @@ struct tables {
     uint16_t *h, *g;
     uint64_t *aux;
 };
+
+/* Tries that are enough for any list of k vectors. */
+static inline uint64_t enough_tries(size_t k)
+{
+    return (uint64_t)k * (k + 1) / 2;
+}
 
 /* What is done with the unit of a call: some keys are looked up, or every key of n bits; or no unit is built, and a sound record stands
  * over junk in the tables. */

@@ -108,7 +108,10 @@ static void make_case(struct trial *t, struct random *r)
     for (size_t v = 0; v < VARIABLES; v++)
         t->call.variables[v] = random_word(r);
     t->call.p = t->call.n1 = t->call.degree = 0;
+    t->call.allowance = UINT64_MAX;
     t->kind->make(r, &t->call);
+    if (t->call.allowance == UINT64_MAX && one_in(r, 2))
+        t->call.allowance = one_in(r, 2) ? UINT32_MAX : enough_tries(t->call.k);
     memory_fill(&t->before[0], &t->call, r);
     memory_twin(&t->before[1], &t->before[0], &t->call, r);
     for (int side = 0; side < 2; side++)

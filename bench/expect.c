@@ -148,6 +148,16 @@ uint64_t expected_refusal(const struct call *c)
     return c->given ? variables_refusal(c) : 0;
 }
 
+bool row_is_tried(const struct call *c, uint64_t row)
+{
+    for (size_t i = 0; i < c->k; i++) {
+        uint64_t number = number_of(c, c->vectors[i]);
+        if (number % ((uint64_t)1 << c->n1) == row && number >> c->n1 >= c->L)
+            return false;
+    }
+    return true;
+}
+
 uint64_t expected_lookup(const struct call *c, uint64_t x)
 {
     if (x & ~inputs(c->n))

@@ -23,6 +23,9 @@ uint64_t kept_inputs(const uint64_t *variables, size_t p, size_t n);
 /* Refusal + 256 * place by the checks 1 to 7, and 8 to 10 and 12 in the given build; 0 when all of them pass. */
 uint64_t expected_refusal(const struct call *c);
 
+/* Of a given build: whether each vector of the row has its column below L, so that the displacement 0 is tried. */
+bool row_is_tried(const struct call *c, uint64_t row);
+
 /* The answers for an accepted unit, from the list alone. */
 uint64_t expected_lookup(const struct call *c, uint64_t x);
 uint64_t expected_recovery(const struct call *c, size_t i, uint64_t *vector);

@@ -66,12 +66,12 @@ static void first_write(int signal, siginfo_t *info, void *context)
 
 static void chosen(void)
 {
-    answer = igu_build(N, DEGREE, CELLS, vectors, K, h, ROWS, g, CELLS, aux, K + 1, record);
+    answer = igu_build(N, DEGREE, CELLS, UINT64_MAX, vectors, K, h, ROWS, g, CELLS, aux, K + 1, record);
 }
 
 static void given(void)
 {
-    answer = igu_build_given(N, p, n1, CELLS, variables, vectors, K, h, ROWS, g, CELLS, aux, K + 1, record);
+    answer = igu_build_given(N, p, n1, CELLS, UINT64_MAX, variables, vectors, K, h, ROWS, g, CELLS, aux, K + 1, record);
 }
 
 static size_t run(void (*build)(void))

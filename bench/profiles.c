@@ -31,8 +31,8 @@ static uint64_t build_with(int side, struct shelf *s)
 {
     struct unit *u = &s->unit[side];
     const uint32_t(*keys)[FIELDS] = (const uint32_t(*)[FIELDS])s->keys;
-    return (side == 0 ? igu_profiles_build : twin_profiles_build)(s->degree, s->L, keys, s->count, u->h, s->h_len, u->g, s->g_len, u->aux,
-                                                                  s->aux_len, u->record);
+    return (side == 0 ? igu_profiles_build : twin_profiles_build)(s->degree, s->L, s->allowance, keys, s->count, u->h, s->h_len, u->g, s->g_len,
+                                                                  u->aux, s->aux_len, u->record);
 }
 
 static void compare_units(const struct shelf *s, const char *what)
@@ -96,7 +96,7 @@ static void narrow(struct random *r, struct shelf *s)
 {
     static const uint64_t list[] = {1, 2, 3};
     struct unit *u = &s->unit[0];
-    if (igu_build(random_between(r, 2, 20), 1, 8, list, 3, u->h, H_ROOM, u->g, G_ROOM, u->aux, KEYS_ROOM + 1, u->record) != 0)
+    if (igu_build(random_between(r, 2, 20), 1, 8, 6, list, 3, u->h, H_ROOM, u->g, G_ROOM, u->aux, KEYS_ROOM + 1, u->record) != 0)
         differ("a small list is refused", 1, 0);
     s->h_len = H_ROOM;
     s->g_len = G_ROOM;
@@ -193,7 +193,7 @@ static void run_case(void)
 
 static bool all_arose(void)
 {
-    static const int builds[] = {0, 2, 3, 4, 5, 7, 11, 12, 13, 30}, profiles[] = {0, 6, 14, 30, 31};
+    static const int builds[] = {0, 2, 3, 4, 5, 7, 11, 12, 13, 30, 41}, profiles[] = {0, 6, 14, 30, 31};
     bool all = from_brand > 0 && from_house > 0 && from_none > 0;
     for (size_t i = 0; i < sizeof builds / sizeof builds[0]; i++)
         if (built[builds[i]] == 0) {

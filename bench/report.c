@@ -9,14 +9,14 @@ static const char *const entry_names[ENTRIES] = {"build", "build_given", "lookup
 
 /* The refusals that docs/SCOPE.md lets each entry give, as bits. */
 static const uint64_t possible[ENTRIES] = {
-    [BUILD] = 0x38FF,       /* 0 to 7, 11, 12, 13 */
-    [BUILD_GIVEN] = 0x37FF, /* 0 to 10, 12, 13 */
-    [LOOKUP] = 0x4041,      /* 0, 6, 14 */
-    [MANY] = 0x104041,      /* 0, 6, 14, 20 */
-    [RECOVER] = 0xC001,     /* 0, 14, 15 */
-    [ADD] = 0x10000006469,  /* 0, 3, 5, 6, 10, 13, 14, 40 */
-    [WRITE] = 0x104001,     /* 0, 14, 20 */
-    [READ] = 0x1E00001,     /* 0, 21 to 24 */
+    [BUILD] = 0x200000038FF,       /* 0 to 7, 11, 12, 13, 41 */
+    [BUILD_GIVEN] = 0x200000037FF, /* 0 to 10, 12, 13, 41 */
+    [LOOKUP] = 0x4041,             /* 0, 6, 14 */
+    [MANY] = 0x104041,             /* 0, 6, 14, 20 */
+    [RECOVER] = 0xC001,            /* 0, 14, 15 */
+    [ADD] = 0x10000006469,         /* 0, 3, 5, 6, 10, 13, 14, 40 */
+    [WRITE] = 0x104001,            /* 0, 14, 20 */
+    [READ] = 0x1E00001,            /* 0, 21 to 24 */
 };
 
 bool refusal_possible(enum entry entry, uint64_t refusal)
@@ -39,7 +39,8 @@ static void print_call(const struct call *c)
         printf("p %zu, n1 %zu, ", c->p, c->n1);
     else
         printf("degree %zu, ", c->degree);
-    printf("L %zu, k %zu, h_len %zu, g_len %zu, aux_len %zu\n", c->L, c->k, c->length.h, c->length.g, c->length.aux);
+    printf("L %zu, allowance %" PRIu64 ", k %zu, h_len %zu, g_len %zu, aux_len %zu\n", c->L, c->allowance, c->k, c->length.h, c->length.g,
+           c->length.aux);
 }
 
 /* The file as it was handed to a read; the unit as it was handed to any other entry but the builds, damaged or not. */

@@ -27,7 +27,7 @@ struct counts {
 };
 
 /* Prints the case and both answers, and ends the program with status 1; argument is lookup's key or the vector
- * added, how many keys there are, recovery's index or the length of the file. */
+ * added, how many keys there are, recovery's index, the length of the file or the tries allowed. */
 _Noreturn void report_difference(const struct trial *t, const char *what, enum entry entry, uint64_t argument, const uint64_t answers[2]);
 
 void report_counts(const struct counts *counts);

@@ -88,6 +88,7 @@ void draw_shelf(struct random *r, struct shelf *s)
     while (enough < 2 * s->count)
         enough *= 2;
     s->L = one_in(r, 30) ? G_ROOM + 1 : one_in(r, 8) ? random_between(r, 0, s->count) : enough;
+    s->allowance = one_in(r, 20) ? random_below(r, s->count + 1) : UINT32_MAX;
     s->h_len = one_in(r, 20) ? random_below(r, 8) : H_ROOM;
     s->g_len = one_in(r, 30) ? random_below(r, G_ROOM) : G_ROOM;
     s->aux_len = one_in(r, 20) ? random_below(r, s->count + 1) : s->count + 1;

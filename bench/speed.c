@@ -60,14 +60,14 @@ static uint64_t build_igu(void)
 {
     struct unit *u = &setup.igu;
     const struct size *s = &setup.size;
-    return igu_build(s->n, s->degree, s->L, setup.vectors, s->k, u->h, 4096, u->g, 8192, u->aux, RIVAL_KEYS + 1, u->record);
+    return igu_build(s->n, s->degree, s->L, UINT32_MAX, setup.vectors, s->k, u->h, 4096, u->g, 8192, u->aux, RIVAL_KEYS + 1, u->record);
 }
 
 static uint64_t build_twin(void)
 {
     struct unit *u = &setup.twin;
     const struct size *s = &setup.size;
-    return twin_build(s->n, s->degree, s->L, setup.vectors, s->k, u->h, 4096, u->g, 8192, u->aux, RIVAL_KEYS + 1, u->record);
+    return twin_build(s->n, s->degree, s->L, UINT32_MAX, setup.vectors, s->k, u->h, 4096, u->g, 8192, u->aux, RIVAL_KEYS + 1, u->record);
 }
 
 static void draw_list(struct random *r)

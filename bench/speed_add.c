@@ -25,7 +25,7 @@ static uint64_t added;
 
 static uint64_t build(void)
 {
-    return igu_build(N, DEGREE, L, vectors, K, unit.h, ROWS, unit.g, L, unit.aux, K + 2, unit.record);
+    return igu_build(N, DEGREE, L, UINT32_MAX, vectors, K, unit.h, ROWS, unit.g, L, unit.aux, K + 2, unit.record);
 }
 
 static uint64_t add_igu(void)

@@ -46,7 +46,7 @@ static void build_list(void)
             vectors[i] = random_key(&r);
             i += scan_lookup(vectors, i, vectors[i]) == 0;
         }
-    while (igu_build(N, 2, L, vectors, K, h, ROWS, g, L, aux, K + 1, record) != 0);
+    while (igu_build(N, 2, L, UINT32_MAX, vectors, K, h, ROWS, g, L, aux, K + 1, record) != 0);
     sorted_build(&sorted, vectors, K);
     hash_build(&hash, vectors, K);
 }

@@ -34,7 +34,7 @@ static void draw(struct shelf *s, uint32_t press, uint64_t seed)
         s->keys[i][0] = press;
         s->keys[i][FIELDS - 1] = 8000 + i;
     }
-    if (igu_profiles_build(2, L, (const uint32_t(*)[FIELDS])s->keys, K, s->h, ROWS, s->g, L, s->aux, K + 1, s->record) != 0)
+    if (igu_profiles_build(2, L, UINT32_MAX, (const uint32_t(*)[FIELDS])s->keys, K, s->h, ROWS, s->g, L, s->aux, K + 1, s->record) != 0)
         stop("a list of keys is refused");
 }
 

@@ -9,7 +9,7 @@
 enum { MAX_INPUTS = 64, MAX_SIDE = 12, MAX_ROWS = 1 << MAX_SIDE, MAX_VECTORS = 1023, MAX_CELLS = 8192 };
 
 typedef struct {
-    uint64_t n, p, n1, L, k, kept, variable[TWIN_VARIABLES];
+    uint64_t n, p, n1, L, allowance, k, kept, variable[TWIN_VARIABLES];
     const uint64_t *vectors;
     uint16_t *h, *g;
     uint64_t *aux, h_len, g_len, aux_len;
@@ -339,6 +339,17 @@ static uint64_t needed_cells(const shelf *s, const unit *u, const uint64_t *imag
     }
 }
 
+/* How many displacements keep every column of the row below L. */
+static uint64_t tried_in_vain(const shelf *s, const unit *u, const uint64_t *images, unsigned row) {
+    unsigned from = (unsigned)(u->n1 + u->n - u->p);
+    uint64_t last = 0;
+    for (unsigned v = s->last[row]; v != 0; v = s->before[v]) {
+        uint64_t column = from == 64 ? 0 : (uint16_t)(images[v - 1] >> from);
+        if (column > last) last = column;
+    }
+    return u->L > last ? u->L - last : 0;
+}
+
 static unsigned place_row(shelf *s, const unit *u, const uint64_t *images, unsigned row) {
     uint16_t column[MAX_VECTORS];
     unsigned weight = 0, from = (unsigned)(u->n1 + u->n - u->p);
@@ -363,7 +374,7 @@ static void clear_tables(const unit *u) {
 /* The smallest m with 2^m at least k, which the excess is counted from. */
 static uint64_t floor_for(uint64_t k) { return 63 - (uint64_t)__builtin_clzll(2 * k - 1); }
 
-/* Checks 12 and 13; the tables and the record. */
+/* Checks 12, 41 and 13; the tables and the record. */
 static uint64_t place_rows(const unit *u, const uint64_t *images, uint64_t *record) {
     shelf s;
     uint64_t tries = 0;
@@ -374,11 +385,12 @@ static uint64_t place_rows(const unit *u, const uint64_t *images, uint64_t *reco
     take_none(s.taken, u->L);
     for (unsigned t = 0; t < s.rows; t++) {
         unsigned displacement = place_row(&s, u, images, s.order[t]);
+        tries += displacement == NO_FIT ? tried_in_vain(&s, u, images, s.order[t]) : displacement + 1;
+        if (tries > u->allowance) return clear_tables(u), 41 + 256 * (uint64_t)s.order[t];
         if (displacement == NO_FIT) {
             uint64_t needed = needed_cells(&s, u, images, s.order[t]);
             return clear_tables(u), 13 + 256 * (uint64_t)s.order[t] + (needed << 32);
         }
-        tries += displacement + 1;
     }
     for (uint64_t v = 1; v <= u->k; v++) u->aux[v] = images[v - 1] & low_bits(u->n1 + u->n - u->p);
     uint64_t numbers[] = {u->n, u->p, u->n1, u->k, u->L, u->kept, tries, u->p - floor_for(u->k)};
@@ -425,9 +437,10 @@ static uint64_t finish(unit *u, int given, uint64_t *record) {
     return place_rows(u, images, record);
 }
 
-uint64_t twin_build(size_t n, size_t degree, size_t L, const uint64_t *vectors, size_t k, uint16_t *h, size_t h_len, uint16_t *g,
-                    size_t g_len, uint64_t *aux, size_t aux_len, uint64_t record[TWIN_RECORD_WORDS]) {
-    unit u = {.n = n, .L = L, .k = k, .vectors = vectors, .h = h, .h_len = h_len, .g = g, .g_len = g_len, .aux = aux, .aux_len = aux_len};
+uint64_t twin_build(size_t n, size_t degree, size_t L, uint64_t allowance, const uint64_t *vectors, size_t k, uint16_t *h, size_t h_len,
+                    uint16_t *g, size_t g_len, uint64_t *aux, size_t aux_len, uint64_t record[TWIN_RECORD_WORDS]) {
+    unit u = {.n = n, .L = L, .allowance = allowance, .k = k, .vectors = vectors, .h = h, .h_len = h_len, .g = g, .g_len = g_len, .aux = aux,
+              .aux_len = aux_len};
     memset(record, 0, TWIN_RECORD_WORDS * sizeof *record);
     if (n - 1 >= MAX_INPUTS) return 1;
     if (degree - 1 >= 2) return 2;
@@ -438,11 +451,11 @@ uint64_t twin_build(size_t n, size_t degree, size_t L, const uint64_t *vectors, 
     return finish(&u, 0, record);
 }
 
-uint64_t twin_build_given(size_t n, size_t p, size_t n1, size_t L, const uint64_t variables[TWIN_VARIABLES], const uint64_t *vectors,
-                          size_t k, uint16_t *h, size_t h_len, uint16_t *g, size_t g_len, uint64_t *aux, size_t aux_len,
-                          uint64_t record[TWIN_RECORD_WORDS]) {
-    unit u = {.n = n, .p = p, .n1 = n1, .L = L, .k = k, .vectors = vectors, .h = h, .h_len = h_len, .g = g, .g_len = g_len, .aux = aux,
-              .aux_len = aux_len};
+uint64_t twin_build_given(size_t n, size_t p, size_t n1, size_t L, uint64_t allowance, const uint64_t variables[TWIN_VARIABLES],
+                          const uint64_t *vectors, size_t k, uint16_t *h, size_t h_len, uint16_t *g, size_t g_len, uint64_t *aux,
+                          size_t aux_len, uint64_t record[TWIN_RECORD_WORDS]) {
+    unit u = {.n = n, .p = p, .n1 = n1, .L = L, .allowance = allowance, .k = k, .vectors = vectors, .h = h, .h_len = h_len, .g = g,
+              .g_len = g_len, .aux = aux, .aux_len = aux_len};
     memset(record, 0, TWIN_RECORD_WORDS * sizeof *record);
     if (n - 1 >= MAX_INPUTS) return 1;
     if (p > TWIN_VARIABLES || n1 > p || n1 > MAX_SIDE || p - n1 > MAX_SIDE) return 2;

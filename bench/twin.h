@@ -9,12 +9,12 @@
 #define TWIN_RECORD_WORDS 40
 #define TWIN_VARIABLES 24
 
-uint64_t twin_build(size_t n, size_t degree, size_t L, const uint64_t *vectors, size_t k, uint16_t *h, size_t h_len, uint16_t *g,
-                    size_t g_len, uint64_t *aux, size_t aux_len, uint64_t record[TWIN_RECORD_WORDS]);
+uint64_t twin_build(size_t n, size_t degree, size_t L, uint64_t allowance, const uint64_t *vectors, size_t k, uint16_t *h, size_t h_len,
+                    uint16_t *g, size_t g_len, uint64_t *aux, size_t aux_len, uint64_t record[TWIN_RECORD_WORDS]);
 
-uint64_t twin_build_given(size_t n, size_t p, size_t n1, size_t L, const uint64_t variables[TWIN_VARIABLES], const uint64_t *vectors,
-                          size_t k, uint16_t *h, size_t h_len, uint16_t *g, size_t g_len, uint64_t *aux, size_t aux_len,
-                          uint64_t record[TWIN_RECORD_WORDS]);
+uint64_t twin_build_given(size_t n, size_t p, size_t n1, size_t L, uint64_t allowance, const uint64_t variables[TWIN_VARIABLES],
+                          const uint64_t *vectors, size_t k, uint16_t *h, size_t h_len, uint16_t *g, size_t g_len, uint64_t *aux,
+                          size_t aux_len, uint64_t record[TWIN_RECORD_WORDS]);
 
 uint64_t twin_lookup(const uint64_t record[TWIN_RECORD_WORDS], const uint16_t *h, size_t h_len, const uint16_t *g, size_t g_len,
                      const uint64_t *aux, size_t aux_len, uint64_t x);
@@ -35,8 +35,8 @@ uint64_t twin_write(const uint64_t record[TWIN_RECORD_WORDS], const uint16_t *h,
 uint64_t twin_read(const uint8_t *file, size_t file_len, uint16_t *h, size_t h_len, uint16_t *g, size_t g_len, uint64_t *aux,
                    size_t aux_len, uint64_t record[TWIN_RECORD_WORDS]);
 
-uint64_t twin_profiles_build(size_t degree, size_t L, const uint32_t (*keys)[5], size_t count, uint16_t *h, size_t h_len, uint16_t *g,
-                             size_t g_len, uint64_t *aux, size_t aux_len, uint64_t record[TWIN_RECORD_WORDS]);
+uint64_t twin_profiles_build(size_t degree, size_t L, uint64_t allowance, const uint32_t (*keys)[5], size_t count, uint16_t *h,
+                             size_t h_len, uint16_t *g, size_t g_len, uint64_t *aux, size_t aux_len, uint64_t record[TWIN_RECORD_WORDS]);
 
 uint64_t twin_profile(const uint64_t brand[TWIN_RECORD_WORDS], const uint16_t *brand_h, size_t brand_h_len, const uint16_t *brand_g,
                       size_t brand_g_len, const uint64_t *brand_aux, size_t brand_aux_len, const uint8_t *brand_slab,

@@ -27,8 +27,8 @@ static uint64_t word_of(const uint32_t *key)
 }
 
 /* A list that is too long is refused by its length, so its first words are enough. */
-uint64_t twin_profiles_build(size_t degree, size_t L, const uint32_t (*keys)[FIELDS], size_t count, uint16_t *h, size_t h_len, uint16_t *g,
-                             size_t g_len, uint64_t *aux, size_t aux_len, uint64_t record[TWIN_RECORD_WORDS])
+uint64_t twin_profiles_build(size_t degree, size_t L, uint64_t allowance, const uint32_t (*keys)[FIELDS], size_t count, uint16_t *h,
+                             size_t h_len, uint16_t *g, size_t g_len, uint64_t *aux, size_t aux_len, uint64_t record[TWIN_RECORD_WORDS])
 {
     uint64_t words[MOST_KEYS];
     for (size_t i = 0; i < count; i++) {
@@ -39,7 +39,7 @@ uint64_t twin_profiles_build(size_t degree, size_t L, const uint32_t (*keys)[FIE
         if (i < MOST_KEYS)
             words[i] = word_of(keys[i]);
     }
-    return twin_build(KEY_BITS, degree, L, words, count < MOST_KEYS ? count : MOST_KEYS, h, h_len, g, g_len, aux, aux_len, record);
+    return twin_build(KEY_BITS, degree, L, allowance, words, count < MOST_KEYS ? count : MOST_KEYS, h, h_len, g, g_len, aux, aux_len, record);
 }
 
 static int too_short(const uint64_t *record, size_t slab_len, size_t size)

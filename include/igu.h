@@ -44,19 +44,21 @@ extern "C" {
 #define IGU_VARIABLES 24
 
 /* Chooses variables of degree 1 (x_i) or 2 (also x_i XOR x_j) that tell the k vectors apart, and builds the unit with G of L cells.
- * Needs h_len >= 2^n1 (4,096 always suffices), g_len >= L and aux_len >= k + 1.
+ * Needs h_len >= 2^n1 (4,096 always suffices), g_len >= L and aux_len >= k + 1. While rows are placed it tries no more displacements
+ * than allowance says; k * (k + 1) / 2 are enough for every list, and UINT64_MAX is no limit.
  * Returns refusal + 256 * place + 2^32 * needed: on 13 the place is the row that has none, and needed the least L with which it would
- * have one after the same earlier rows; needed is 0 in every other result, and below 2^14. The result 0 is acceptance: record holds the
- * unit, H[0..2^n1), G[0..L) and AUX[0..k] hold its tables. On any refusal record is all 0. Refusals 1 to 12 leave the tables as they
- * were, 13 leaves those ranges 0. No other word is written. */
-uint64_t igu_build(size_t n, size_t degree, size_t L, const uint64_t *vectors, size_t k, uint16_t *h, size_t h_len, uint16_t *g,
-                   size_t g_len, uint64_t *aux, size_t aux_len, uint64_t record[IGU_RECORD_WORDS]);
+ * have one after the same earlier rows; on 41 the place is the row in hand when more would be tried than are allowed. needed is 0 in
+ * every result but 13, and below 2^14. The result 0 is acceptance: record holds the unit, H[0..2^n1), G[0..L) and AUX[0..k] hold its
+ * tables. On any refusal record is all 0. Refusals 1 to 12 leave the tables as they were, 13 and 41 leave those ranges 0. No other word
+ * is written. */
+uint64_t igu_build(size_t n, size_t degree, size_t L, uint64_t allowance, const uint64_t *vectors, size_t k, uint16_t *h, size_t h_len,
+                   uint16_t *g, size_t g_len, uint64_t *aux, size_t aux_len, uint64_t record[IGU_RECORD_WORDS]);
 
 /* The same with the caller's variables, p of them, the first n1 for the rows. A variable's word is as in the record; its part is not
  * read. A word above 2^17 - 1 is a faulty variable, refusal 8. Words past the first p do not matter. */
-uint64_t igu_build_given(size_t n, size_t p, size_t n1, size_t L, const uint64_t variables[IGU_VARIABLES], const uint64_t *vectors,
-                         size_t k, uint16_t *h, size_t h_len, uint16_t *g, size_t g_len, uint64_t *aux, size_t aux_len,
-                         uint64_t record[IGU_RECORD_WORDS]);
+uint64_t igu_build_given(size_t n, size_t p, size_t n1, size_t L, uint64_t allowance, const uint64_t variables[IGU_VARIABLES],
+                         const uint64_t *vectors, size_t k, uint16_t *h, size_t h_len, uint16_t *g, size_t g_len, uint64_t *aux,
+                         size_t aux_len, uint64_t record[IGU_RECORD_WORDS]);
 
 /* Returns refusal + 256 * index; beside a refusal the index is 0, so take the two apart. With record and tables as a build left them:
  * the index i, 1 to k, exactly when x is vector i in every bit; 0 where x is no vector of the list; refusal 6 where x has a bit beyond
@@ -120,8 +122,9 @@ uint64_t igu_read(const uint8_t *file, size_t file_len, uint16_t *h, size_t h_le
 /* Builds the unit of a list of keys, as igu_build does for their words: n is 56, and the fields stand side by side in the order above,
  * press from bit 0. Needs, returns and leaves what igu_build does; before any other refusal it gives 30, place 0, where a key has a field
  * over its width. The refusals 1 and 6 do not arise. */
-uint64_t igu_profiles_build(size_t degree, size_t L, const uint32_t (*keys)[IGU_KEY_WORDS], size_t count, uint16_t *h, size_t h_len,
-                            uint16_t *g, size_t g_len, uint64_t *aux, size_t aux_len, uint64_t record[IGU_RECORD_WORDS]);
+uint64_t igu_profiles_build(size_t degree, size_t L, uint64_t allowance, const uint32_t (*keys)[IGU_KEY_WORDS], size_t count,
+                            uint16_t *h, size_t h_len, uint16_t *g, size_t g_len, uint64_t *aux, size_t aux_len,
+                            uint64_t record[IGU_RECORD_WORDS]);
 
 /* Says where the profile of a key is. The brand owner's slab and the house's each have profiles of equal length, size bytes, one for each
  * key of their unit, in the order of its list. Returns refusal + 256 * number + 2^32 * slab: the profile with this number, from 1, begins

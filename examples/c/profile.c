@@ -27,7 +27,7 @@ static const char house_slab[COUNT][SIZE] = {"red, house, day 9790", "red, house
 
 static int build(struct unit *u, const uint32_t keys[COUNT][IGU_KEY_WORDS])
 {
-    uint64_t built = igu_profiles_build(2, CELLS, keys, COUNT, u->h, ROWS, u->g, CELLS, u->aux, COUNT + 1, u->record);
+    uint64_t built = igu_profiles_build(2, CELLS, UINT32_MAX, keys, COUNT, u->h, ROWS, u->g, CELLS, u->aux, COUNT + 1, u->record);
     if (built != 0)
         fprintf(stderr, "igu_profiles_build: refusal %" PRIu64 ", place %" PRIu64 "\n", built % 256, built / 256 % 65536);
     return built == 0;

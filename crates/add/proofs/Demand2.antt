@@ -46,9 +46,9 @@ pub record Standing (u : Record) (t : Tables) (vs : List ℕ) : Type 0 where
   pub fits : WordsFit u t
 
 pub made-stands : {n : ℕ} {vs : List ℕ} {u : Record} {t : Tables} → Steps n vs u t → Standing u t vs
-made-stands {n} (Made.by-rule degree cells vs t z) = record { holds = chosen-holds n degree cells vs t z; fits = chosen-fits n degree cells vs t z }
-made-stands {n} (Made.by-caller variables p n1 cells vs t slots z) =
-    record { holds = given-holds n variables p n1 cells vs t slots z; fits = given-fits n variables p n1 cells vs t slots z }
+made-stands {n} (Made.by-rule degree cells allowance vs t z) = record { holds = chosen-holds n degree cells allowance vs t z; fits = chosen-fits n degree cells allowance vs t z }
+made-stands {n} (Made.by-caller variables p n1 cells allowance vs t slots z) =
+    record { holds = given-holds n variables p n1 cells allowance vs t slots z; fits = given-fits n variables p n1 cells allowance vs t slots z }
 made-stands (Made.added m x z) =
     let s = made-stands m in
     record { holds = add-appends _ _ _ (s .holds) x z; fits = add-fits _ _ _ (s .holds) (s .fits) x z }
@@ -62,8 +62,8 @@ made-holds m = made-stands m .holds
 -- its record has the list's width
 pub made-width : {n : ℕ} {vs : List ℕ} {u : Record} {t : Tables} → Steps n vs u t → u .n ≡ n
 unfolding recordOf
-made-width {n} (Made.by-rule degree cells vs t z) = chosen-width n degree cells vs t z
-made-width {n} (Made.by-caller variables p n1 cells vs t slots z) = given-width n variables p n1 cells vs t z
+made-width {n} (Made.by-rule degree cells allowance vs t z) = chosen-width n degree cells allowance vs t z
+made-width {n} (Made.by-caller variables p n1 cells allowance vs t slots z) = given-width n variables p n1 cells allowance vs t z
 made-width (Made.added m x z) = ap (λ (u : Record). u .n) (accepted-record _ _ x z) ∙ made-width m
 made-width (Made.carried m into z) =
     let s = made-stands m in
@@ -87,8 +87,8 @@ holds-excess u t vs H e =
 
 pub made-excess : ExcessMade buildChosen buildGiven addOf readOf
 unfolding recordOf
-made-excess n _ _ _ (Made.by-rule degree cells vs t z) = chosen-excess n degree cells vs t z
-made-excess n _ _ _ (Made.by-caller variables p n1 cells vs t slots z) = given-excess n variables p n1 cells vs t slots z
+made-excess n _ _ _ (Made.by-rule degree cells allowance vs t z) = chosen-excess n degree cells allowance vs t z
+made-excess n _ _ _ (Made.by-caller variables p n1 cells allowance vs t slots z) = given-excess n variables p n1 cells allowance vs t slots z
 made-excess n _ _ _ (Made.added m x z) = holds-excess _ _ _ (add-appends _ _ _ (made-holds m) x z) (rw (accepted-record _ _ x z))
 made-excess n _ _ _ (Made.carried m into z) =
     let s = made-stands m in
@@ -105,6 +105,6 @@ writes-nothing-fails d =
     omega (
       arith,
       ap (λ (f : Found). f .index)
-          (d 3 _ _ _ (Made.added (Made.by-caller (given (One 1 ∷ One 2 ∷ One 3 ∷ [])) 3 2 6 (0 ∷ 1 ∷ 2 ∷ 3 ∷ []) (nines 4 6 6) refl refl) 7 refl)
+          (d 3 _ _ _ (Made.added (Made.by-caller (given (One 1 ∷ One 2 ∷ One 3 ∷ [])) 3 2 6 10 (0 ∷ 1 ∷ 2 ∷ 3 ∷ []) (nines 4 6 6) refl refl) 7 refl)
           .lookup-exact refl 7 (omega arith)),
     )

@@ -15,10 +15,10 @@ use Rattle.add.specs.Add.{addOf}
 
 -- the unit of 15.3 with a cell and a word of AUX more, and that of 15.8
 abbrev unitS : ℕ → Outcome
-unitS cells = buildChosen 6 2 cells S (nines 4 8 9)
+unitS cells = buildChosen 6 2 cells 15 S (nines 4 8 9)
 
 abbrev unit8 : Outcome
-unit8 = buildGiven 3 (given (One 1 ∷ One 2 ∷ One 3 ∷ [])) 3 2 6 (0 ∷ 1 ∷ 2 ∷ 3 ∷ []) (nines 4 6 6)
+unit8 = buildGiven 3 (given (One 1 ∷ One 2 ∷ One 3 ∷ [])) 3 2 6 10 (0 ∷ 1 ∷ 2 ∷ 3 ∷ []) (nines 4 6 6)
 
 abbrev added : Outcome → ℕ → Outcome
 added o x = addOf (o .built .unit) (o .tables) x

@@ -18,12 +18,12 @@ use Rattle.add.specs.Facts.{Adder}
 -- the record and the tables of a unit, and the list of vectors of n bits that it was built of, with each vector added at its end
 pub data Made (build : ChosenBuild) (given : GivenBuild) (add : Adder) (read : Reader) (n : ℕ) : List ℕ → Record → Tables → Type 0 where
   -- built, the variables chosen by rule
-  by-rule : (degree cells : ℕ) (vs : List ℕ) (t : Tables) → build n degree cells vs t .built .refusal ≡ 0
-      → Made build given add read n vs (build n degree cells vs t .built .unit) (build n degree cells vs t .tables)
+  by-rule : (degree cells allowance : ℕ) (vs : List ℕ) (t : Tables) → build n degree cells allowance vs t .built .refusal ≡ 0
+      → Made build given add read n vs (build n degree cells allowance vs t .built .unit) (build n degree cells allowance vs t .tables)
   -- built, the variables given by the caller, in 24 slots
-  by-caller : (variables : List Variable) (p n1 cells : ℕ) (vs : List ℕ) (t : Tables) → length variables ≡ maxVariables
-      → given n variables p n1 cells vs t .built .refusal ≡ 0
-      → Made build given add read n vs (given n variables p n1 cells vs t .built .unit) (given n variables p n1 cells vs t .tables)
+  by-caller : (variables : List Variable) (p n1 cells allowance : ℕ) (vs : List ℕ) (t : Tables) → length variables ≡ maxVariables
+      → given n variables p n1 cells allowance vs t .built .refusal ≡ 0
+      → Made build given add read n vs (given n variables p n1 cells allowance vs t .built .unit) (given n variables p n1 cells allowance vs t .tables)
   -- one vector more
   added : {vs : List ℕ} {u : Record} {t : Tables} → Made build given add read n vs u t → (x : ℕ) → add u t x .built .refusal ≡ 0
       → Made build given add read n (vs ++ (x ∷ [])) (add u t x .built .unit) (add u t x .tables)

@@ -56,23 +56,23 @@ record-settled : (m : Mark) (n n1 k : ℕ) (ks : List Kind) (cells tries : ℕ) 
 unfolding recordOf
 record-settled m n n1 k ks cells tries = ap (λ (l : List Kind). recordOf m n n1 k l cells tries) (sym (kinds-in n1 ks))
 
-outcome-settled : (r : Refusal) (n n1 : ℕ) (ks : List Kind) (cells : ℕ) (vs : List ℕ) (t : Tables) → outcome r n n1 ks cells vs t .built .refusal ≡ 0
-    → Settled (outcome r n n1 ks cells vs t .built .unit)
-outcome-settled r n n1 ks cells vs t z =
-    let e : outcome r n n1 ks cells vs t .built .unit ≡ recordOf markBuilt n n1 (length vs) ks cells (placingOf n1 ks cells vs .state .tries) =
-    ap (λ (o : Outcome). o .built .unit) (outcome-accepted n n1 ks cells vs t r z .is) in
+outcome-settled : (r : Refusal) (n n1 : ℕ) (ks : List Kind) (cells allowance : ℕ) (vs : List ℕ) (t : Tables) → outcome r n n1 ks cells allowance vs t .built .refusal ≡ 0
+    → Settled (outcome r n n1 ks cells allowance vs t .built .unit)
+outcome-settled r n n1 ks cells allowance vs t z =
+    let e : outcome r n n1 ks cells allowance vs t .built .unit ≡ recordOf markBuilt n n1 (length vs) ks cells (placingOf n1 ks cells vs .state .tries) =
+    ap (λ (o : Outcome). o .built .unit) (outcome-accepted n n1 ks cells allowance vs t r z .is) in
     rw e (record-settled markBuilt n n1 (length vs) ks cells (placingOf n1 ks cells vs .state .tries))
 
-chosen-settled : (n degree cells : ℕ) (vs : List ℕ) (t : Tables) → buildChosen n degree cells vs t .built .refusal ≡ 0 → Settled (buildChosen n degree cells vs t .built .unit)
+chosen-settled : (n degree cells allowance : ℕ) (vs : List ℕ) (t : Tables) → buildChosen n degree cells allowance vs t .built .refusal ≡ 0 → Settled (buildChosen n degree cells allowance vs t .built .unit)
 unfolding buildChosen
-chosen-settled n degree cells vs t =
-    let ks : List Kind = chosenKinds n degree vs in outcome-settled (chosenRefusal n degree ks cells vs t) n (rowsShare (length ks)) ks cells vs t
+chosen-settled n degree cells allowance vs t =
+    let ks : List Kind = chosenKinds n degree vs in outcome-settled (chosenRefusal n degree ks cells vs t) n (rowsShare (length ks)) ks cells allowance vs t
 
-given-settled : (n : ℕ) (variables : List Variable) (p n1 cells : ℕ) (vs : List ℕ) (t : Tables) → buildGiven n variables p n1 cells vs t .built .refusal ≡ 0
-    → Settled (buildGiven n variables p n1 cells vs t .built .unit)
+given-settled : (n : ℕ) (variables : List Variable) (p n1 cells allowance : ℕ) (vs : List ℕ) (t : Tables) → buildGiven n variables p n1 cells allowance vs t .built .refusal ≡ 0
+    → Settled (buildGiven n variables p n1 cells allowance vs t .built .unit)
 unfolding buildGiven
-given-settled n variables p n1 cells vs t =
-    let ks : List Kind = kindsOf (take p variables) in outcome-settled (givenRefusal n p n1 ks cells vs t) n n1 ks cells vs t
+given-settled n variables p n1 cells allowance vs t =
+    let ks : List Kind = kindsOf (take p variables) in outcome-settled (givenRefusal n p n1 ks cells vs t) n n1 ks cells allowance vs t
 
 -- the amended record, with these so
 abbrev amendedBy : Record → ℕ → ℕ → ℤ → List Variable → Record
@@ -140,21 +140,21 @@ record Stood (n : ℕ) (vs words : List ℕ) (t : Tables) : Type 0 where
 abbrev StoodBy : ℕ → List ℕ → Left → Type 0
 StoodBy n vs l = Stood n vs (l .words) (l .tables)
 
-built-stands : (n degree cells : ℕ) (vs : List ℕ) (t : Tables) → buildCall n degree cells vs t .answer ≡ 0 → StoodBy n vs (buildCall n degree cells vs t)
-built-stands n degree cells vs t e =
-    let o : Outcome = buildChosen n degree cells vs t in
-    let l : leftBy o ≡ buildCall n degree cells vs t = build-left n degree cells vs t in
+built-stands : (n degree cells allowance : ℕ) (vs : List ℕ) (t : Tables) → buildCall n degree cells allowance vs t .answer ≡ 0 → StoodBy n vs (buildCall n degree cells allowance vs t)
+built-stands n degree cells allowance vs t e =
+    let o : Outcome = buildChosen n degree cells allowance vs t in
+    let l : leftBy o ≡ buildCall n degree cells allowance vs t = build-left n degree cells allowance vs t in
     let z : o .built .refusal ≡ 0 = no-refusal (o .built .refusal) (o .built .place) (o .built .needed) (ap (λ (m : Left). m .answer) l ∙ e) in
-    subst (StoodBy n vs) l (record { unit = o .built .unit; made = Made.by-rule degree cells vs t z; settled = chosen-settled n degree cells vs t z; words-are = refl })
+    subst (StoodBy n vs) l (record { unit = o .built .unit; made = Made.by-rule degree cells allowance vs t z; settled = chosen-settled n degree cells allowance vs t z; words-are = refl })
 
-given-stands : (n p n1 cells : ℕ) (variables vs : List ℕ) (t : Tables) → length variables ≡ maxVariables → givenCall n p n1 cells variables vs t .answer ≡ 0 → StoodBy n vs (givenCall n p n1 cells variables vs t)
-given-stands n p n1 cells variables vs t many e =
+given-stands : (n p n1 cells allowance : ℕ) (variables vs : List ℕ) (t : Tables) → length variables ≡ maxVariables → givenCall n p n1 cells allowance variables vs t .answer ≡ 0 → StoodBy n vs (givenCall n p n1 cells allowance variables vs t)
+given-stands n p n1 cells allowance variables vs t many e =
     let given : List Variable = map variableAt variables in
-    let o : Outcome = buildGiven n given p n1 cells vs t in
-    let l : leftBy o ≡ givenCall n p n1 cells variables vs t = given-left n p n1 cells variables given vs t refl in
+    let o : Outcome = buildGiven n given p n1 cells allowance vs t in
+    let l : leftBy o ≡ givenCall n p n1 cells allowance variables vs t = given-left n p n1 cells allowance variables given vs t refl in
     let z : o .built .refusal ≡ 0 = no-refusal (o .built .refusal) (o .built .place) (o .built .needed) (ap (λ (m : Left). m .answer) l ∙ e) in
     subst (StoodBy n vs) l
-    (record { unit = o .built .unit; made = Made.by-caller given p n1 cells vs t (length-map variables variableAt ∙ many) z; settled = given-settled n given p n1 cells vs t z; words-are = refl })
+    (record { unit = o .built .unit; made = Made.by-caller given p n1 cells allowance vs t (length-map variables variableAt ∙ many) z; settled = given-settled n given p n1 cells allowance vs t z; words-are = refl })
 
 module _ {n : ℕ} {vs words : List ℕ} {t : Tables} (s : Stood n vs words t) where
   abbrev u : Record
@@ -189,8 +189,8 @@ module _ {n : ℕ} {vs words : List ℕ} {t : Tables} (s : Stood n vs words t) w
       })
 
 stands : {n : ℕ} {vs words : List ℕ} {t : Tables} → ByCalls n vs words t → Stood n vs words t
-stands {n} (ByCalls.built degree cells vs t e) = built-stands n degree cells vs t e
-stands {n} (ByCalls.given p n1 cells variables vs t many e) = given-stands n p n1 cells variables vs t many e
+stands {n} (ByCalls.built degree cells allowance vs t e) = built-stands n degree cells allowance vs t e
+stands {n} (ByCalls.given p n1 cells allowance variables vs t many e) = given-stands n p n1 cells allowance variables vs t many e
 stands (ByCalls.added c x e) = added-stands (stands c) x e
 stands (ByCalls.carried c target into room e) = carried-stands (stands c) target into room e
 

@@ -17,11 +17,11 @@ fileBytes words t target = let f = writeCall words t target in take (f .answer /
 -- a list of vectors of n bits, and the record and the tables that calls have left of it, each with the answer 0
 pub data ByCalls (n : ℕ) : List ℕ → List ℕ → Tables → Type 0 where
   -- igu_build
-  built : (degree cells : ℕ) (vs : List ℕ) (t : Tables) → buildCall n degree cells vs t .answer ≡ 0
-      → ByCalls n vs (buildCall n degree cells vs t .words) (buildCall n degree cells vs t .tables)
+  built : (degree cells allowance : ℕ) (vs : List ℕ) (t : Tables) → buildCall n degree cells allowance vs t .answer ≡ 0
+      → ByCalls n vs (buildCall n degree cells allowance vs t .words) (buildCall n degree cells allowance vs t .tables)
   -- igu_build_given
-  given : (p n1 cells : ℕ) (variables vs : List ℕ) (t : Tables) → length variables ≡ maxVariables → givenCall n p n1 cells variables vs t .answer ≡ 0
-      → ByCalls n vs (givenCall n p n1 cells variables vs t .words) (givenCall n p n1 cells variables vs t .tables)
+  given : (p n1 cells allowance : ℕ) (variables vs : List ℕ) (t : Tables) → length variables ≡ maxVariables → givenCall n p n1 cells allowance variables vs t .answer ≡ 0
+      → ByCalls n vs (givenCall n p n1 cells allowance variables vs t .words) (givenCall n p n1 cells allowance variables vs t .tables)
   -- igu_add: one vector more
   added : {vs words : List ℕ} {t : Tables} → ByCalls n vs words t → (x : ℕ) → addCall words t x .answer ≡ 0
       → ByCalls n (vs ++ (x ∷ [])) (addCall words t x .words) (addCall words t x .tables)

@@ -8,7 +8,7 @@ use Rattle.print.specs.Ascii.{ascii}
 use Rattle.amend.specs.Amend.{addAll, amendText}
 
 abbrev built : Outcome
-built = buildChosen 6 2 8 S (nines 4 8 9)
+built = buildChosen 6 2 8 15 S (nines 4 8 9)
 
 pub record Table : Type 0 where
   pub one : addAll (built .built .unit) (built .tables) (6 ∷ []) .tables

@@ -1,5 +1,5 @@
 -- What a text leaves: whether it is a list, and if so what the build of its unit leaves (SCOPE 14.1 to 14.4).
-use Prim.Native.Nat.{ℕ}
+use Prim.Native.Nat.{ℕ, _-_, _^_}
 use mathlib.Core.Bool.{Bool, true, false}
 use mathlib.Core.List.{List}
 use lib.ListN.{drop, replicate}
@@ -13,6 +13,10 @@ use Rattle.answer.specs.declared.Made.{Made}
 -- tables as long as any unit needs, so that refusals 5 and 12 never come
 abbrev pub roomy : Tables
 roomy = lent (replicate 4096 0) (replicate 8192 0) (replicate 1025 0)
+
+-- SCOPE 14.20: the tries that the program allows
+abbrev pub programAllowance : ℕ
+programAllowance = 2 ^ 32 - 1
 
 pub record Making : Type 0 where
   pub good : Bool
@@ -30,6 +34,6 @@ unfoldable pub makeOf : List ℕ → Tables → Making
 unfolding goodText buildChosen inputOf numbersIn
 makeOf text t =
     elim (goodText text maxListed) [
-      | true ↦ let i = inputOf text maxListed in record { good = true; outcome = buildChosen (i .n) (i .degree) (i .cells) (drop 3 (numbersIn text)) t }
+      | true ↦ let i = inputOf text maxListed in record { good = true; outcome = buildChosen (i .n) (i .degree) (i .cells) programAllowance (drop 3 (numbersIn text)) t }
       | false ↦ record { good = false; outcome = record { built = noBuild; tables = t } }
     ]

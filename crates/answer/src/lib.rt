@@ -10,6 +10,9 @@ use unit::Built;
 // Bytes that every answer fits into (`pageSize`).
 pub const PAGE: usize = 131072;
 
+// The tries that the program allows (`programAllowance`).
+pub const ALLOWANCE: u64 = 0xffff_ffff;
+
 // What a text leaves: whether it is a list, and if so what the build of its unit answers.
 pub struct Made {
     pub good: bool,
@@ -42,6 +45,7 @@ pub fn make(text: &[u8], h: &mut [u16], g: &mut [u16], aux: &mut [u64]) -> Made
         list.n,
         list.degree,
         list.cells,
+        ALLOWANCE,
         &vectors[..list.count],
         h,
         g,

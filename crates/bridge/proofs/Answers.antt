@@ -43,14 +43,14 @@ module _ (r : Built) (h g aux : List ℕ) (o : Outcome) (e : after r h g aux ≡
   pub left-is : (words : List ℕ) (a : ℕ) → words ≡ flatOf (r .unit) → a ≡ builtAnswer (r .refusal) (r .place) (r .needed) → left a words (lent h g aux) ≡ leftBy o
   left-is words a f i = ap₂ (λ (b : ℕ) (w : List ℕ). left b w (lent h g aux)) i f ∙ ap leftBy e
 
-pub build-left : (n degree cells : ℕ) (vs : List ℕ) (t : Tables) → leftBy (buildChosen n degree cells vs t) ≡ buildCall n degree cells vs t
+pub build-left : (n degree cells allowance : ℕ) (vs : List ℕ) (t : Tables) → leftBy (buildChosen n degree cells allowance vs t) ≡ buildCall n degree cells allowance vs t
 unfolding buildCall
-build-left n degree cells vs t = refl
+build-left n degree cells allowance vs t = refl
 
-pub given-left : (n p n1 cells : ℕ) (variables : List ℕ) (given : List Variable) (vs : List ℕ) (t : Tables) → given ≡ map variableAt variables
-    → leftBy (buildGiven n given p n1 cells vs t) ≡ givenCall n p n1 cells variables vs t
+pub given-left : (n p n1 cells allowance : ℕ) (variables : List ℕ) (given : List Variable) (vs : List ℕ) (t : Tables) → given ≡ map variableAt variables
+    → leftBy (buildGiven n given p n1 cells allowance vs t) ≡ givenCall n p n1 cells allowance variables vs t
 unfolding givenCall
-given-left n p n1 cells variables given vs t e = ap (λ (l : List Variable). leftBy (buildGiven n l p n1 cells vs t)) e
+given-left n p n1 cells allowance variables given vs t e = ap (λ (l : List Variable). leftBy (buildGiven n l p n1 cells allowance vs t)) e
 
 -- ---- lookup and recovery
 

@@ -37,15 +37,15 @@ variables-many n1 ks h =
     let c : List Variable = replicate (maxVariables - length ks) blankVariable in
     omega (arith, length-append (a ++ b) c, length-append a b, length-map (take n1 ks) (λ k. made k Row), length-map (drop n1 ks) (λ k. made k Column), length-take n1 ks, length-drop n1 ks, length-replicate (maxVariables - length ks) blankVariable)
 
-module _ (n n1 : ℕ) (second : Refusal) (ks : List Kind) (cells : ℕ) (vs : List ℕ) (t : Tables) (r : Refusal) (pass : r .number ≡ 0 → Passed n n1 second ks cells vs t)
-    (z : outcome r n n1 ks cells vs t .built .refusal ≡ 0) where
+module _ (n n1 : ℕ) (second : Refusal) (ks : List Kind) (cells allowance : ℕ) (vs : List ℕ) (t : Tables) (r : Refusal) (pass : r .number ≡ 0 → Passed n n1 second ks cells vs t)
+    (z : outcome r n n1 ks cells allowance vs t .built .refusal ≡ 0) where
   abbrev o : Outcome
-  o = outcome r n n1 ks cells vs t
+  o = outcome r n n1 ks cells allowance vs t
 
   left-carried : (unitAt (flatOf (o .built .unit)) ≡ o .built .unit) × (allInRange (variableWords (flatOf (o .built .unit))) ≡ true)
   unfolding recordOf
   left-carried =
-      let a = outcome-accepted n n1 ks cells vs t r z in
+      let a = outcome-accepted n n1 ks cells allowance vs t r z in
       let p = pass (a .passed) in
       let many = variables-many n1 ks (p .split .few) in
       let fits = excess-fits (length ks) (length vs) (omega (arith, p .split .few)) (omega (arith, p .list .listed .few)) in
@@ -55,15 +55,15 @@ module _ (n n1 : ℕ) (second : Refusal) (ks : List Kind) (cells : ℕ) (vs : Li
 abbrev pub Carried : Outcome → Type 0
 Carried o = o .built .refusal ≡ 0 → (unitAt (flatOf (o .built .unit)) ≡ o .built .unit) × (allInRange (variableWords (flatOf (o .built .unit))) ≡ true)
 
-pub chosen-carried : (n degree cells : ℕ) (vs : List ℕ) (t : Tables) → Carried (buildChosen n degree cells vs t)
+pub chosen-carried : (n degree cells allowance : ℕ) (vs : List ℕ) (t : Tables) → Carried (buildChosen n degree cells allowance vs t)
 unfolding buildChosen
-chosen-carried n degree cells vs t =
-    left-carried n (rowsShare (length (chosenKinds n degree vs))) _ (chosenKinds n degree vs) cells vs t (chosenRefusal n degree (chosenKinds n degree vs) cells vs t) (chosen-passed n degree cells vs t)
+chosen-carried n degree cells allowance vs t =
+    left-carried n (rowsShare (length (chosenKinds n degree vs))) _ (chosenKinds n degree vs) cells allowance vs t (chosenRefusal n degree (chosenKinds n degree vs) cells vs t) (chosen-passed n degree cells vs t)
 
-pub given-carried : (n : ℕ) (variables : List Variable) (p n1 cells : ℕ) (vs : List ℕ) (t : Tables) → length variables ≡ maxVariables → Carried (buildGiven n variables p n1 cells vs t)
+pub given-carried : (n : ℕ) (variables : List Variable) (p n1 cells allowance : ℕ) (vs : List ℕ) (t : Tables) → length variables ≡ maxVariables → Carried (buildGiven n variables p n1 cells allowance vs t)
 unfolding buildGiven
-given-carried n variables p n1 cells vs t e =
-    left-carried n n1 _ (kindsOf (take p variables)) cells vs t (givenRefusal n p n1 (kindsOf (take p variables)) cells vs t) (given-passed n variables p n1 cells vs t e)
+given-carried n variables p n1 cells allowance vs t e =
+    left-carried n n1 _ (kindsOf (take p variables)) cells allowance vs t (givenRefusal n p n1 (kindsOf (take p variables)) cells vs t) (given-passed n variables p n1 cells vs t e)
 
 -- ---- demand 2 at the boundary
 
@@ -84,12 +84,12 @@ module _ (n : ℕ) (vs : List ℕ) (o : Outcome) (d : Demand2 lookupOf recoverOf
             sym (recovered-read (flatOf (o .built .unit)) (o .tables) (suc i) (o .built .unit) (recovered (getD vs i 0)) (c z .1) (sym (c z .0)) (sym (d .recovery-exact z i l)));
       }
 
-pub build-exact : (n degree cells : ℕ) (vs : List ℕ) (t : Tables) → Exact n vs (buildCall n degree cells vs t)
-build-exact n degree cells vs t =
-    subst (Exact n vs) (build-left n degree cells vs t) (exact n vs (buildChosen n degree cells vs t) (chosen-demand-2 n degree cells vs t) (chosen-carried n degree cells vs t))
+pub build-exact : (n degree cells allowance : ℕ) (vs : List ℕ) (t : Tables) → Exact n vs (buildCall n degree cells allowance vs t)
+build-exact n degree cells allowance vs t =
+    subst (Exact n vs) (build-left n degree cells allowance vs t) (exact n vs (buildChosen n degree cells allowance vs t) (chosen-demand-2 n degree cells allowance vs t) (chosen-carried n degree cells allowance vs t))
 
-pub given-exact : (n p n1 cells : ℕ) (variables vs : List ℕ) (t : Tables) → length variables ≡ maxVariables → Exact n vs (givenCall n p n1 cells variables vs t)
-given-exact n p n1 cells variables vs t e =
+pub given-exact : (n p n1 cells allowance : ℕ) (variables vs : List ℕ) (t : Tables) → length variables ≡ maxVariables → Exact n vs (givenCall n p n1 cells allowance variables vs t)
+given-exact n p n1 cells allowance variables vs t e =
     let many : length (map variableAt variables) ≡ maxVariables = length-map variables variableAt ∙ e in
-    subst (Exact n vs) (given-left n p n1 cells variables (map variableAt variables) vs t refl)
-    (exact n vs (buildGiven n (map variableAt variables) p n1 cells vs t) (given-demand-2 n (map variableAt variables) p n1 cells vs t many) (given-carried n (map variableAt variables) p n1 cells vs t many))
+    subst (Exact n vs) (given-left n p n1 cells allowance variables (map variableAt variables) vs t refl)
+    (exact n vs (buildGiven n (map variableAt variables) p n1 cells allowance vs t) (given-demand-2 n (map variableAt variables) p n1 cells allowance vs t many) (given-carried n (map variableAt variables) p n1 cells allowance vs t many))

@@ -92,15 +92,15 @@ module _ (n : ℕ) (vs : List ℕ) (o : Outcome) (flat : Carried o) (held : o .b
       subst (λ (x : List ℕ). (readCall x into .answer ≡ 0) × Exact n vs (readCall x into)) (sym f)
       (subst (λ (y : Left). (y .answer ≡ 0) × Exact n vs y) (sym l) (e, exact n vs (facts.carried readOf into o) (demand into roomy) (flat-read z into roomy)))
 
-pub build-carries : (n degree cells : ℕ) (vs : List ℕ) (t : Tables) → Carries n vs (buildCall n degree cells vs t)
-build-carries n degree cells vs t =
-    subst (Carries n vs) (build-left n degree cells vs t)
-    (carries n vs (buildChosen n degree cells vs t) (chosen-carried n degree cells vs t) (chosen-holds n degree cells vs t) (chosen-record-carried n degree cells vs t)
-    (λ into roomy. carried-chosen-demand-2 into roomy n degree cells vs t))
+pub build-carries : (n degree cells allowance : ℕ) (vs : List ℕ) (t : Tables) → Carries n vs (buildCall n degree cells allowance vs t)
+build-carries n degree cells allowance vs t =
+    subst (Carries n vs) (build-left n degree cells allowance vs t)
+    (carries n vs (buildChosen n degree cells allowance vs t) (chosen-carried n degree cells allowance vs t) (chosen-holds n degree cells allowance vs t) (chosen-record-carried n degree cells allowance vs t)
+    (λ into roomy. carried-chosen-demand-2 into roomy n degree cells allowance vs t))
 
-pub given-carries : (n p n1 cells : ℕ) (variables vs : List ℕ) (t : Tables) → length variables ≡ maxVariables → Carries n vs (givenCall n p n1 cells variables vs t)
-given-carries n p n1 cells variables vs t e =
+pub given-carries : (n p n1 cells allowance : ℕ) (variables vs : List ℕ) (t : Tables) → length variables ≡ maxVariables → Carries n vs (givenCall n p n1 cells allowance variables vs t)
+given-carries n p n1 cells allowance variables vs t e =
     let many : length (map variableAt variables) ≡ maxVariables = length-map variables variableAt ∙ e in
-    subst (Carries n vs) (given-left n p n1 cells variables (map variableAt variables) vs t refl)
-    (carries n vs (buildGiven n (map variableAt variables) p n1 cells vs t) (given-carried n (map variableAt variables) p n1 cells vs t many) (given-holds n (map variableAt variables) p n1 cells vs t many)
-    (given-record-carried n (map variableAt variables) p n1 cells vs t many) (λ into roomy. carried-given-demand-2 into roomy n (map variableAt variables) p n1 cells vs t many))
+    subst (Carries n vs) (given-left n p n1 cells allowance variables (map variableAt variables) vs t refl)
+    (carries n vs (buildGiven n (map variableAt variables) p n1 cells allowance vs t) (given-carried n (map variableAt variables) p n1 cells allowance vs t many) (given-holds n (map variableAt variables) p n1 cells allowance vs t many)
+    (given-record-carried n (map variableAt variables) p n1 cells allowance vs t many) (λ into roomy. carried-given-demand-2 into roomy n (map variableAt variables) p n1 cells allowance vs t many))

@@ -34,13 +34,13 @@ left r words t = record { answer = r; words = words; tables = t }
 abbrev pub leftBy : Outcome → Left
 leftBy o = left (builtAnswer (o .built .refusal) (o .built .place) (o .built .needed)) (flatOf (o .built .unit)) (o .tables)
 
-unfoldable pub buildCall : ℕ → ℕ → ℕ → List ℕ → Tables → Left
+unfoldable pub buildCall : ℕ → ℕ → ℕ → ℕ → List ℕ → Tables → Left
 unfolding buildChosen flatOf
-buildCall n degree cells vs t = leftBy (buildChosen n degree cells vs t)
+buildCall n degree cells allowance vs t = leftBy (buildChosen n degree cells allowance vs t)
 
-unfoldable pub givenCall : ℕ → ℕ → ℕ → ℕ → List ℕ → List ℕ → Tables → Left
+unfoldable pub givenCall : ℕ → ℕ → ℕ → ℕ → ℕ → List ℕ → List ℕ → Tables → Left
 unfolding buildGiven variableAt flatOf
-givenCall n p n1 cells variables vs t = leftBy (buildGiven n (map variableAt variables) p n1 cells vs t)
+givenCall n p n1 cells allowance variables vs t = leftBy (buildGiven n (map variableAt variables) p n1 cells allowance vs t)
 
 -- a word that is no variable's, any of the 24, is refused as 14 by lookup and recovery
 unfoldable pub foundIn : List ℕ → Tables → ℕ → Found

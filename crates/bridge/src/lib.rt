@@ -12,13 +12,14 @@ pub mod flat;
 // So many places an answer can tell apart.
 const MAX_PLACES: u64 = 1 << 56;
 
-// The build that chooses its variables. The answer is the refusal, 256 times the place and 2^32 times the
+// The build that chooses its variables, with an allowance of tries. The answer is the refusal, 256 times the place and 2^32 times the
 // cells needed.
 #[no_mangle]
 pub extern "C" fn igu_build(
     n: usize,
     degree: usize,
     cells: usize,
+    allowance: u64,
     vectors: &[u64],
     h: &mut [u16],
     g: &mut [u16],
@@ -26,21 +27,22 @@ pub extern "C" fn igu_build(
     words: &mut [u64; WORDS],
 ) -> u64
     ensures { λ r. ⌜ left r (now (words .exit)) (lent (now (h .exit)) (now (g .exit)) (now (aux .exit)))
-        ≡ buildCall n degree cells (now (vectors .entry)) (lent (now (h .entry)) (now (g .entry)) (now (aux .entry))) ⌝ }
+        ≡ buildCall n degree cells allowance (now (vectors .entry)) (lent (now (h .entry)) (now (g .entry)) (now (aux .entry))) ⌝ }
 {
-    let built = unit::build_chosen(n, degree, cells, vectors, h, g, aux);
+    let built = unit::build_chosen(n, degree, cells, allowance, vectors, h, g, aux);
     let unit = built.unit;
     *words = flat::words(unit);
     flat::built_answer(built.refusal, built.place, built.needed)
 }
 
-// The build whose variables and n1 the caller states.
+// The build whose variables and n1 the caller states, likewise.
 #[no_mangle]
 pub extern "C" fn igu_build_given(
     n: usize,
     p: usize,
     n1: usize,
     cells: usize,
+    allowance: u64,
     variables: &[u64; MAX_VARIABLES],
     vectors: &[u64],
     h: &mut [u16],
@@ -49,11 +51,11 @@ pub extern "C" fn igu_build_given(
     words: &mut [u64; WORDS],
 ) -> u64
     ensures { λ r. ⌜ left r (now (words .exit)) (lent (now (h .exit)) (now (g .exit)) (now (aux .exit)))
-        ≡ givenCall n p n1 cells (now (variables .entry)) (now (vectors .entry)) (lent (now (h .entry)) (now (g .entry)) (now (aux .entry))) ⌝ }
+        ≡ givenCall n p n1 cells allowance (now (variables .entry)) (now (vectors .entry)) (lent (now (h .entry)) (now (g .entry)) (now (aux .entry))) ⌝ }
 {
     let counted = flat::all_counted(variables);
     let given = flat::variables(&counted);
-    let built = unit::build_given(n, given, p, n1, cells, vectors, h, g, aux);
+    let built = unit::build_given(n, given, p, n1, cells, allowance, vectors, h, g, aux);
     let unit = built.unit;
     *words = flat::words(unit);
     flat::built_answer(built.refusal, built.place, built.needed)

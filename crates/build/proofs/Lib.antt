@@ -3,3 +3,4 @@ pub mod Writing
 pub mod Holding
 pub mod Places
 pub mod Cells
+pub mod Allowed

@@ -1,11 +1,10 @@
 -- A build's place is a row, or the number of a vector or a variable, and a lookup's index is the number of a vector: they are small. Assumes nothing.
 use Prim.Native.Nat.{ℕ, zero, suc, _+_, _-_, _^_, _≤_, _<_}
 use native.Mathlib.Omega.{arith}
-use native.Mathlib.Nat.{eq-zero-or-pos, lt-of-lt-of-le}
+use native.Mathlib.Nat.{lt-of-lt-of-le}
 use mathlib.Core.Path.{_≡_, refl}
 use mathlib.Core.Bool.{Bool, true, false, not, _||_}
 use mathlib.Core.List.{List, [], _∷_, _++_, map}
-use mathlib.Core.Logic.{_⊎_, inl, inr}
 use borrow.Author.Tests.{ltb-false}
 use lib.Dec.{leb, ltb}
 use lib.ListN.{length, take, replicate, length-map, length-take, length-replicate}
@@ -24,13 +23,13 @@ use Rattle.build.specs.Build.{rowsShare, caresFrom, placingOf, outcome, 
 use Rattle.build.specs.declared.Refusal.{Refusal}
 use Rattle.build.specs.Refusals.{firstBeyond, check1, refuseIf, refuseAt, orElse, ladder, listChecks, givenChecks, check2Chosen, check2Given, check4, check5, check6, check7, check8, check9, check10, check11, check12}
 use Rattle.record.specs.Tables.{Tables}
-use Rattle.build.proofs.Refusing.Ladder.{outcome-refused, outcome-passed}
-use Rattle.build.proofs.Holding.Ends.{finish-all, finish-stuck, placing-rows, placing-ends}
+use Rattle.build.proofs.Holding.Ends.{Comes, early, whole, stuck, over, comes, placing-rows}
 use Rattle.build.proofs.Holding.Passed.{chosen-passed, given-passed}
-use Rattle.rows.specs.declared.End.{End}
-use Rattle.rows.specs.declared.End.the-variants as ends
-use Rattle.rows.specs.declared.End.the-variants.{NoFit, Unfit}
+use Rattle.rows.specs.Allowance.{endWithin}
+use Rattle.rows.specs.declared.End.the-variants.{NoFit, Over}
 use Rattle.rows.proofs.Placing.Turns.{ended}
+use Rattle.rows.proofs.Placing.Allowed.{within-stuck}
+use Rattle.rows.proofs.Placing.Within.{over-in}
 use Rattle.rows.proofs.Placing.Wider.{stuck-low}
 use Rattle.build.specs.Cells.{neededLimit}
 use Rattle.build.proofs.Holding.Cares.{cares-columns}
@@ -89,60 +88,65 @@ list-low n second cells vs g aux rs h l =
 
 -- ---- past refusals 1 to 12
 
-row-low : (n1 : ℕ) (ks : List Kind) (cells : ℕ) (vs : List ℕ) → n1 ≤ maxSide → (row tried needed : ℕ) → placingOf n1 ks cells vs .end ≡ NoFit row tried needed → row < placeLimit
-unfolding placingOf
-row-low n1 ks cells vs h row tried needed e =
-    let next = ended (caresFrom 1 n1 ks vs) (replicate (2 ^ n1) 0) (replicate cells 0) .no-fit row tried needed e .0 in
-    let l : row < 2 ^ n1 = rw (← placing-rows n1 ks cells vs) (next .row-in) in
-    lt-of-lt-of-le l (pow-mono {i = n1} {j = maxSide} h)
+module _ (n1 : ℕ) (ks : List Kind) (cells : ℕ) (vs : List ℕ) where
+  -- a row is below the number of rows
+  row-low : n1 ≤ maxSide → (row : ℕ) → row < 2 ^ n1 → row < placeLimit
+  row-low h row l = lt-of-lt-of-le l (pow-mono {i = n1} {j = maxSide} h)
 
--- what is needed beside a refusal
-needed-low : (n1 : ℕ) (ks : List Kind) (cells : ℕ) (vs : List ℕ) → cells ≤ maxCells → length ks - n1 ≤ maxSide → (row tried needed : ℕ)
-    → placingOf n1 ks cells vs .end ≡ NoFit row tried needed → needed ≤ neededLimit
-unfolding placingOf
-needed-low n1 ks cells vs few h row tried needed e =
-    let s = stuck-low (caresFrom 1 n1 ks vs) (replicate (2 ^ n1) 0) (replicate cells 0) row tried needed e (2 ^ (length ks - n1)) (cares-columns n1 ks 1 vs) in
-    omega (arith, s, length-replicate {A = ℕ} cells 0, pow-mono {i = length ks - n1} {j = maxSide} h)
+  stuck-row : (a row tried needed : ℕ) → endWithin a (placingOf n1 ks cells vs) ≡ NoFit row tried needed → row < 2 ^ n1
+  unfolding placingOf
+  stuck-row a row tried needed e =
+      rw (placing-rows n1 ks cells vs) at
+      (ended (caresFrom 1 n1 ks vs) (replicate (2 ^ n1) 0) (replicate cells 0) .no-fit row tried needed (within-stuck a (placingOf n1 ks cells vs) row tried needed e .is) .0 .row-in)
 
-outcome-needed : (r : Refusal) (n n1 : ℕ) (ks : List Kind) (cells : ℕ) (vs : List ℕ) (t : Tables) → (r .number ≡ 0 → (cells ≤ maxCells) × (length ks - n1 ≤ maxSide))
-    → outcome r n n1 ks cells vs t .built .needed ≤ neededLimit
-outcome-needed r n n1 ks cells vs t l = go (eq-zero-or-pos (r .number)) (placingOf n1 ks cells vs .end) refl
-  where
-    go : (r .number ≡ 0) ⊎ (0 < r .number) → (e : End) → placingOf n1 ks cells vs .end ≡ e → outcome r n n1 ks cells vs t .built .needed ≤ neededLimit
-    go (inr k) e q = rw (outcome-refused r n n1 ks cells vs t (λ z. omega arith)) (omega arith)
-    go (inl z) ends.All q = rw (outcome-passed r n n1 ks cells vs t z, finish-all n n1 ks cells vs t q) (omega arith)
-    go (inl z) (NoFit row tried needed) q =
-        rw (outcome-passed r n n1 ks cells vs t z, finish-stuck n n1 ks cells vs t row tried needed q) (needed-low n1 ks cells vs (l z .0) (l z .1) row tried needed q)
-    go (inl z) Unfit q = absurd (placing-ends n1 ks cells vs q)
+  over-row : (a row : ℕ) → endWithin a (placingOf n1 ks cells vs) ≡ Over row → row < 2 ^ n1
+  unfolding placingOf
+  over-row a row e = rw (length-replicate (2 ^ n1)) at (over-in a (caresFrom 1 n1 ks vs) (replicate (2 ^ n1) 0) (replicate cells 0) row e)
 
-outcome-low : (r : Refusal) (n n1 : ℕ) (ks : List Kind) (cells : ℕ) (vs : List ℕ) (t : Tables) → Low r → (r .number ≡ 0 → n1 ≤ maxSide)
-    → outcome r n n1 ks cells vs t .built .place < placeLimit
-outcome-low r n n1 ks cells vs t h l = go (eq-zero-or-pos (r .number)) (placingOf n1 ks cells vs .end) refl
-  where
-    go : (r .number ≡ 0) ⊎ (0 < r .number) → (e : End) → placingOf n1 ks cells vs .end ≡ e → outcome r n n1 ks cells vs t .built .place < placeLimit
-    go (inr k) e q = rw (outcome-refused r n n1 ks cells vs t (λ z. omega arith)) h
-    go (inl z) ends.All q = rw (outcome-passed r n n1 ks cells vs t z, finish-all n n1 ks cells vs t q) (omega arith)
-    go (inl z) (NoFit row tried needed) q =
-        rw (outcome-passed r n n1 ks cells vs t z, finish-stuck n n1 ks cells vs t row tried needed q) (row-low n1 ks cells vs (l z) row tried needed q)
-    go (inl z) Unfit q = absurd (placing-ends n1 ks cells vs q)
+  -- what is needed beside a refusal
+  needed-low : cells ≤ maxCells → length ks - n1 ≤ maxSide → (a row tried needed : ℕ) → endWithin a (placingOf n1 ks cells vs) ≡ NoFit row tried needed → needed ≤ neededLimit
+  unfolding placingOf
+  needed-low few h a row tried needed e =
+      let q = within-stuck a (placingOf n1 ks cells vs) row tried needed e .is in
+      let s = stuck-low (caresFrom 1 n1 ks vs) (replicate (2 ^ n1) 0) (replicate cells 0) row tried needed q (2 ^ (length ks - n1)) (cares-columns n1 ks 1 vs) in
+      omega (arith, s, length-replicate {A = ℕ} cells 0, pow-mono {i = length ks - n1} {j = maxSide} h)
+
+module _ (r : Refusal) (n n1 : ℕ) (ks : List Kind) (cells a : ℕ) (vs : List ℕ) (t : Tables) where
+  outcome-needed : (r .number ≡ 0 → (cells ≤ maxCells) × (length ks - n1 ≤ maxSide)) → outcome r n n1 ks cells a vs t .built .needed ≤ neededLimit
+  outcome-needed l = go (comes n n1 ks cells a vs t r)
+    where
+      go : Comes n n1 ks cells a vs t r → outcome r n n1 ks cells a vs t .built .needed ≤ neededLimit
+      go (early k e) = rw e (omega arith)
+      go (whole z q e) = rw e (omega arith)
+      go (stuck z row tried needed q e) = rw e (needed-low n1 ks cells vs (l z .0) (l z .1) a row tried needed q)
+      go (over z row q e) = rw e (omega arith)
+
+  outcome-low : Low r → (r .number ≡ 0 → n1 ≤ maxSide) → outcome r n n1 ks cells a vs t .built .place < placeLimit
+  outcome-low h l = go (comes n n1 ks cells a vs t r)
+    where
+      go : Comes n n1 ks cells a vs t r → outcome r n n1 ks cells a vs t .built .place < placeLimit
+      go (early k e) = rw e h
+      go (whole z q e) = rw e (omega arith)
+      go (stuck z row tried needed q e) = rw e (row-low n1 ks cells vs (l z) row (stuck-row n1 ks cells vs a row tried needed q))
+      go (over z row q e) = rw e (row-low n1 ks cells vs (l z) row (over-row n1 ks cells vs a row q))
 
 -- ---- the builds
 
-pub chosen-place : (n degree cells : ℕ) (vs : List ℕ) (t : Tables) → buildChosen n degree cells vs t .built .place < placeLimit
+pub chosen-place : (n degree cells a : ℕ) (vs : List ℕ) (t : Tables) → buildChosen n degree cells a vs t .built .place < placeLimit
 unfolding buildChosen chosenRefusal
-chosen-place n degree cells vs t =
+chosen-place n degree cells a vs t =
     let ks : List Kind = choose maxVariables n degree vs in
-    outcome-low (chosenRefusal n degree ks cells vs t) n (rowsShare (length ks)) ks cells vs t
+    outcome-low (chosenRefusal n degree ks cells vs t) n (rowsShare (length ks)) ks cells a vs t
     (list-low n (check2Chosen degree) cells vs (length (t .g)) (length (t .aux)) (check11 ks vs ∷ check12 (rowsShare (length ks)) (t .h) ∷ []) (if-low 2 (outside 1 2 degree)) (λ k. (if-low 11 (not (apart vs ks)), (if-low 12 (ltb (length (t .h)) (2 ^ rowsShare (length ks))), tt))))
     (λ z. chosen-passed n degree cells vs t z .split .rows-few)
 
-pub given-place : (n : ℕ) (variables : List Variable) (p n1 cells : ℕ) (vs : List ℕ) (t : Tables) → length variables ≡ maxVariables
-    → buildGiven n variables p n1 cells vs t .built .place < placeLimit
+pub given-place : (n : ℕ) (variables : List Variable) (p n1 cells a : ℕ) (vs : List ℕ) (t : Tables) → length variables ≡ maxVariables
+    → buildGiven n variables p n1 cells a vs t .built .place < placeLimit
 unfolding buildGiven givenRefusal firstDependent repeated
-given-place n variables p n1 cells vs t places =
+given-place n variables p n1 cells a vs t places =
     let ks : List Kind = kindsOf (take p variables) in
     let few : length ks ≤ maxVariables = omega (arith, length-map (take p variables) (λ (v : Variable). v .kind), length-take p variables) in
-    outcome-low (givenRefusal n p n1 ks cells vs t) n n1 ks cells vs t
+    outcome-low (givenRefusal n p n1 ks cells vs t) n n1 ks cells a vs t
     (list-low n (check2Given p n1) cells vs (length (t .g)) (length (t .aux)) (givenChecks n ks vs ++ (check12 n1 (t .h) ∷ [])) (if-low 2 (tooMany p n1))
     (λ k.
     let eighth : Low (check8 n ks) = at-low 8 (firstFaulty n ks) (omega (arith, first-length (λ before v. faulty n v) ks)) in
@@ -153,16 +157,16 @@ given-place n variables p n1 cells vs t places =
 
 -- ---- the cells needed
 
-pub chosen-needed : (n degree cells : ℕ) (vs : List ℕ) (t : Tables) → buildChosen n degree cells vs t .built .needed ≤ neededLimit
+pub chosen-needed : (n degree cells a : ℕ) (vs : List ℕ) (t : Tables) → buildChosen n degree cells a vs t .built .needed ≤ neededLimit
 unfolding buildChosen
-chosen-needed n degree cells vs t =
+chosen-needed n degree cells a vs t =
     let ks : List Kind = choose maxVariables n degree vs in
-    outcome-needed (chosenRefusal n degree ks cells vs t) n (rowsShare (length ks)) ks cells vs t
+    outcome-needed (chosenRefusal n degree ks cells vs t) n (rowsShare (length ks)) ks cells a vs t
     (λ z. let p = chosen-passed n degree cells vs t z in (p .list .few-cells, p .split .columns-few))
 
-pub given-needed : (n : ℕ) (variables : List Variable) (p n1 cells : ℕ) (vs : List ℕ) (t : Tables) → length variables ≡ maxVariables
-    → buildGiven n variables p n1 cells vs t .built .needed ≤ neededLimit
+pub given-needed : (n : ℕ) (variables : List Variable) (p n1 cells a : ℕ) (vs : List ℕ) (t : Tables) → length variables ≡ maxVariables
+    → buildGiven n variables p n1 cells a vs t .built .needed ≤ neededLimit
 unfolding buildGiven
-given-needed n variables p n1 cells vs t places =
-    outcome-needed (givenRefusal n p n1 (kindsOf (take p variables)) cells vs t) n n1 (kindsOf (take p variables)) cells vs t
+given-needed n variables p n1 cells a vs t places =
+    outcome-needed (givenRefusal n p n1 (kindsOf (take p variables)) cells vs t) n n1 (kindsOf (take p variables)) cells a vs t
     (λ z. let q = given-passed n variables p n1 cells vs t places z in (q .list .few-cells, q .split .columns-few))

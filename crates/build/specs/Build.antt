@@ -12,7 +12,8 @@ use Rattle.span.specs.Span.{kept, firstDependent}
 use Rattle.choice.specs.Choice.{choose, apart}
 use Rattle.rows.specs.Care.{Care, caresBy}
 use Rattle.rows.specs.Place.{Placing, place}
-use Rattle.rows.specs.declared.End.the-variants.{All, NoFit, Unfit}
+use Rattle.rows.specs.Allowance.{endWithin}
+use Rattle.rows.specs.declared.End.the-variants.{All, NoFit, Over, Unfit}
 use Rattle.record.specs.declared.Record.{Record}
 use Rattle.record.specs.Record.{markBuilt, blankRecord, recordOf}
 use Rattle.record.specs.Tables.{Tables, lent, over}
@@ -54,7 +55,7 @@ refused r t = refusedFor r 0 t
 abbrev pub accepted : Record → Built
 accepted u = record { refusal = 0; place = 0; needed = 0; unit = u }
 
--- SCOPE 11.6: zeros in the words that the unit would have had, and no other word altered
+-- SCOPE 11.6: what 13 and 41 leave: zeros in the words that the unit would have had, and no other word altered
 abbrev pub zeroed : ℕ → ℕ → ℕ → Tables → Tables
 zeroed n1 cells k t =
     record { h = over (replicate (2 ^ n1) 0) (t .h); g = over (replicate cells 0) (t .g); aux = over (replicate (suc k) 0) (t .aux) }
@@ -68,24 +69,25 @@ abbrev pub written : ℕ → ℕ → List Kind → List ℕ → Placing → Tabl
 written n n1 ks vs P t =
     record { h = over (P .state .h) (t .h); g = over (P .state .g) (t .g); aux = over (auxOf n n1 ks vs) (t .aux) }
 
--- past refusals 1 to 12. SCOPE 11.1, No. 13: a row in its turn fits nowhere, and so many cells are needed (SCOPE 7.7); or else the unit. No placing ends with Unfit
-unfoldable pub finish : ℕ → ℕ → List Kind → ℕ → List ℕ → Tables → Outcome
-unfolding placingOf recordOf wordOf
-finish n n1 ks cells vs t =
+-- past refusals 1 to 12, with an allowance of tries. SCOPE 11.1, No. 41: more would be made, and this row is in hand; No. 13: a row in its turn fits nowhere, and so many cells are needed (SCOPE 7.7); or else the unit. No placing ends with Unfit
+unfoldable pub finish : ℕ → ℕ → List Kind → ℕ → ℕ → List ℕ → Tables → Outcome
+unfolding placingOf endWithin recordOf wordOf
+finish n n1 ks cells allowance vs t =
     let P = placingOf n1 ks cells vs in
-    elim (P .end) [
+    elim (endWithin allowance P) [
       | All ↦ record {
         built = accepted (recordOf markBuilt n n1 (length vs) ks cells (P .state .tries));
         tables = written n n1 ks vs P t;
       }
       | NoFit row tried needed ↦ refusedFor (record { number = 13; place = row }) needed (zeroed n1 cells (length vs) t)
+      | Over row ↦ refused (record { number = 41; place = row }) (zeroed n1 cells (length vs) t)
       | Unfit ↦ refused (record { number = 13; place = 0 }) (zeroed n1 cells (length vs) t)
     ]
 
 -- SCOPE 11.5: a refusal by one of 1 to 12 has written no word
-unfoldable pub outcome : Refusal → ℕ → ℕ → List Kind → ℕ → List ℕ → Tables → Outcome
+unfoldable pub outcome : Refusal → ℕ → ℕ → List Kind → ℕ → ℕ → List ℕ → Tables → Outcome
 unfolding finish
-outcome r n n1 ks cells vs t = elim (r .number) [ zero ↦ finish n n1 ks cells vs t | suc m ↦ refused r t ]
+outcome r n n1 ks cells allowance vs t = elim (r .number) [ zero ↦ finish n n1 ks cells allowance vs t | suc m ↦ refused r t ]
 
 -- ---- variables chosen by rule
 
@@ -101,12 +103,12 @@ chosenRefusal n degree ks cells vs t =
 abbrev pub chosenKinds : ℕ → ℕ → List ℕ → List Kind
 chosenKinds n degree vs = choose maxVariables n degree vs
 
--- SCOPE 1.3, 4: the chosen build of the list vs, with so many cells, in the tables t
-unfoldable pub buildChosen : ℕ → ℕ → ℕ → List ℕ → Tables → Outcome
+-- SCOPE 1.3, 4: the chosen build of the list vs, with so many cells and so many tries allowed, in the tables t
+unfoldable pub buildChosen : ℕ → ℕ → ℕ → ℕ → List ℕ → Tables → Outcome
 unfolding choose chosenRefusal outcome
-buildChosen n degree cells vs t =
+buildChosen n degree cells allowance vs t =
     let ks = chosenKinds n degree vs in
-    outcome (chosenRefusal n degree ks cells vs t) n (rowsShare (length ks)) ks cells vs t
+    outcome (chosenRefusal n degree ks cells vs t) n (rowsShare (length ks)) ks cells allowance vs t
 
 -- ---- variables given by the caller
 
@@ -120,8 +122,8 @@ givenRefusal n p n1 ks cells vs t =
     ++ (check12 n1 (t .h) ∷ []))
 
 -- SCOPE 1.3, 5.2: the given build, by the first p of the variables
-unfoldable pub buildGiven : ℕ → List Variable → ℕ → ℕ → ℕ → List ℕ → Tables → Outcome
+unfoldable pub buildGiven : ℕ → List Variable → ℕ → ℕ → ℕ → ℕ → List ℕ → Tables → Outcome
 unfolding givenRefusal outcome
-buildGiven n variables p n1 cells vs t =
+buildGiven n variables p n1 cells allowance vs t =
     let ks = kindsOf (take p variables) in
-    outcome (givenRefusal n p n1 ks cells vs t) n n1 ks cells vs t
+    outcome (givenRefusal n p n1 ks cells vs t) n n1 ks cells allowance vs t

@@ -1,4 +1,4 @@
--- The refusals of the builds, in the order of checking. Refusal 13 is in Build, 14 and 15 are those of lookup and recovery.
+-- The refusals of the builds, in the order of checking. Refusals 13 and 41 are in Build, 14 and 15 are those of lookup and recovery.
 use Prim.Native.Nat.{ℕ, zero, suc, _^_}
 use mathlib.Core.Bool.{Bool, cond, not, _||_}
 use mathlib.Core.List.{List, [], _∷_, map}

@@ -67,19 +67,26 @@ fn write_words(vectors: &[u64], rows: &[u64], kept: u64, aux: &mut [u64])
 }
 
 // Places the rows of the vectors: H is lent with a word for each row, G with a word for each cell, AUX with a word for each vector and one more.
-fn place_all(chart: Chart, vectors: &[u64], h: &mut [u16], g: &mut [u16], aux: &mut [u64]) -> Placed
+fn place_all(
+    chart: Chart,
+    allowance: u64,
+    vectors: &[u64],
+    h: &mut [u16],
+    g: &mut [u16],
+    aux: &mut [u64],
+) -> Placed
     requires sizes { ⌜ (length (now aux) ≡ suc (length (now vectors))) × (length (now vectors) ≤ maxVectors) × (length (now h) ≡ 2 ^ chart .n1) × (length (now g) ≤ maxCells) ⌝ }
     requires words { ⌜ All (λ v. v < 2 ^ maxInputs) (now vectors) ⌝ }
     requires split { ⌜ (chart .p ≤ maxVariables) × (chart .n1 ≤ chart .p) × (chart .n1 ≤ maxSide) × (chart .p - chart .n1 ≤ maxSide) ⌝ }
     ensures { λ r. ⌜ left r (now (h .exit)) (now (g .exit))
-        ≡ settle (placingOf (chart .n1) (kindsBy chart) (length (now (g .entry))) (now (vectors .entry))) (replicate (2 ^ chart .n1) 0) (replicate (length (now (g .entry))) 0) ⌝ }
+        ≡ settle allowance (placingOf (chart .n1) (kindsBy chart) (length (now (g .entry))) (now (vectors .entry))) (replicate (2 ^ chart .n1) 0) (replicate (length (now (g .entry))) 0) ⌝ }
 {
     let p = chart.p;
     let variables = chart.variables;
     let masks = vectors::masks(variables, p);
     lists::clear16(g);
     write_places(vectors, &masks[..p], chart.n1, aux);
-    rows::place(aux, h, g, 0)
+    rows::place(aux, h, g, 0, allowance)
 }
 
 // The record of an accepted unit, and AUX as lookups want it.
@@ -121,20 +128,31 @@ fn accept(chart: Chart, cells: usize, tries: u64, vectors: &[u64], aux: &mut [u6
 }
 
 // The build past refusal 12, in the parts of the tables that the unit has, lent whole.
-fn finish(chart: Chart, vectors: &[u64], h: &mut [u16], g: &mut [u16], aux: &mut [u64]) -> Built
+fn finish(
+    chart: Chart,
+    allowance: u64,
+    vectors: &[u64],
+    h: &mut [u16],
+    g: &mut [u16],
+    aux: &mut [u64],
+) -> Built
     requires sizes { ⌜ (length (now aux) ≡ suc (length (now vectors))) × (length (now h) ≡ 2 ^ chart .n1) × (length (now g) ≤ maxCells) × (chart .p ≤ maxVariables) ⌝ }
     requires list { ⌜ Listed (chart .n) (now vectors) ⌝ }
     requires split { ⌜ Split (chart .n) (chart .n1) (kindsBy chart) ⌝ }
     ensures { λ r. ⌜ after r (now (h .exit)) (now (g .exit)) (now (aux .exit))
-        ≡ spec.finish (chart .n) (chart .n1) (kindsBy chart) (length (now (g .entry))) (now (vectors .entry)) (lent (now (h .entry)) (now (g .entry)) (now (aux .entry))) ⌝ }
+        ≡ spec.finish (chart .n) (chart .n1) (kindsBy chart) (length (now (g .entry))) allowance (now (vectors .entry)) (lent (now (h .entry)) (now (g .entry)) (now (aux .entry))) ⌝ }
 {
-    let placed = place_all(chart, vectors, h, g, aux);
+    let placed = place_all(chart, allowance, vectors, h, g, aux);
     let end = placed.end;
     match end {
         End::All => accept(chart, g.len(), placed.tries, vectors, aux),
         End::NoFit(row, _, needed) => {
             lists::clear64(aux);
             refused(13, row, needed)
+        }
+        End::Over(row) => {
+            lists::clear64(aux);
+            refused(41, row, 0)
         }
         End::Unfit => refused(13, 0, 0),
     }
@@ -144,6 +162,7 @@ fn finish(chart: Chart, vectors: &[u64], h: &mut [u16], g: &mut [u16], aux: &mut
 pub(crate) fn complete(
     chart: Chart,
     cells: usize,
+    allowance: u64,
     vectors: &[u64],
     h: &mut [u16],
     g: &mut [u16],
@@ -153,7 +172,7 @@ pub(crate) fn complete(
     requires list { ⌜ Listed (chart .n) (now vectors) ⌝ }
     requires split { ⌜ Split (chart .n) (chart .n1) (kindsBy chart) ⌝ }
     ensures { λ r. ⌜ after r (now (h .exit)) (now (g .exit)) (now (aux .exit))
-        ≡ outcome (check12 (chart .n1) (now (h .entry))) (chart .n) (chart .n1) (kindsBy chart) cells (now (vectors .entry)) (lent (now (h .entry)) (now (g .entry)) (now (aux .entry))) ⌝ }
+        ≡ outcome (check12 (chart .n1) (now (h .entry))) (chart .n) (chart .n1) (kindsBy chart) cells allowance (now (vectors .entry)) (lent (now (h .entry)) (now (g .entry)) (now (aux .entry))) ⌝ }
 {
     let rows = 1usize << chart.n1;
     if h.len() < rows {
@@ -162,6 +181,7 @@ pub(crate) fn complete(
     let last = vectors.len() + 1;
     finish(
         chart,
+        allowance,
         vectors,
         &mut h[..rows],
         &mut g[..cells],

@@ -32,18 +32,19 @@ pub(crate) struct Chart {
     pub variables: [Variable; MAX_VARIABLES],
 }
 
-// The build that chooses its variables.
+// The build that chooses its variables. No more displacements are tried than the allowance says.
 pub fn build_chosen(
     n: usize,
     degree: usize,
     cells: usize,
+    allowance: u64,
     vectors: &[u64],
     h: &mut [u16],
     g: &mut [u16],
     aux: &mut [u64],
 ) -> Built
     ensures { λ r. ⌜ after r (now (h .exit)) (now (g .exit)) (now (aux .exit))
-        ≡ buildChosen n degree cells (now (vectors .entry)) (lent (now (h .entry)) (now (g .entry)) (now (aux .entry))) ⌝ }
+        ≡ buildChosen n degree cells allowance (now (vectors .entry)) (lent (now (h .entry)) (now (g .entry)) (now (aux .entry))) ⌝ }
 {
     let two = vectors::outside(1, 2, degree);
     let list = checks::check_list(n, two, cells, vectors, g.len(), aux.len());
@@ -63,23 +64,24 @@ pub fn build_chosen(
         n1,
         variables,
     };
-    finish::complete(chart, cells, vectors, h, g, aux)
+    finish::complete(chart, cells, allowance, vectors, h, g, aux)
 }
 
-// The build whose variables and n1 the caller states.
+// The build whose variables and n1 the caller states, with an allowance likewise.
 pub fn build_given(
     n: usize,
     variables: [Variable; MAX_VARIABLES],
     p: usize,
     n1: usize,
     cells: usize,
+    allowance: u64,
     vectors: &[u64],
     h: &mut [u16],
     g: &mut [u16],
     aux: &mut [u64],
 ) -> Built
     ensures { λ r. ⌜ after r (now (h .exit)) (now (g .exit)) (now (aux .exit))
-        ≡ buildGiven n variables p n1 cells (now (vectors .entry)) (lent (now (h .entry)) (now (g .entry)) (now (aux .entry))) ⌝ }
+        ≡ buildGiven n variables p n1 cells allowance (now (vectors .entry)) (lent (now (h .entry)) (now (g .entry)) (now (aux .entry))) ⌝ }
 {
     let two = vectors::too_many(p, n1);
     let list = checks::check_list(n, two, cells, vectors, g.len(), aux.len());
@@ -96,5 +98,5 @@ pub fn build_given(
     if given.number != 0 {
         return finish::refused(given.number, given.place, 0);
     }
-    finish::complete(chart, cells, vectors, h, g, aux)
+    finish::complete(chart, cells, allowance, vectors, h, g, aux)
 }

@@ -5,6 +5,9 @@ use vectors::MAX_VARIABLES;
 use vectors::Part;
 use vectors::Variable;
 
+// More tries than any list makes.
+const PLENTY: u64 = 1_000_000;
+
 // 0, 1, 2, ..
 fn count(words: &mut [u64]) {
     let mut i = 0;
@@ -28,6 +31,7 @@ fn in_part(
     n: usize,
     degree: usize,
     cells: usize,
+    allowance: u64,
     vectors: &[u64],
     rows: usize,
     room: usize,
@@ -43,6 +47,7 @@ fn in_part(
         n,
         degree,
         cells,
+        allowance,
         vectors,
         &mut h[..rows],
         &mut g[..room],
@@ -55,6 +60,7 @@ fn chosen(
     n: usize,
     degree: usize,
     cells: usize,
+    allowance: u64,
     vectors: &[u64],
     rows: usize,
     room: usize,
@@ -67,6 +73,7 @@ fn chosen(
         n,
         degree,
         cells,
+        allowance,
         vectors,
         rows,
         room,
@@ -79,11 +86,20 @@ fn chosen(
 
 // The build by rule with tables long enough for any list.
 fn by_rule(n: usize, degree: usize, cells: usize, vectors: &[u64]) {
-    chosen(n, degree, cells, vectors, 4096, 8193, 1025);
+    chosen(n, degree, cells, PLENTY, vectors, 4096, 8193, 1025);
 }
 
 // The build with three variables given, of six inputs, all marked as columns.
-fn given(a: Kind, b: Kind, c: Kind, p: usize, n1: usize, cells: usize, vectors: &[u64]) {
+fn given(
+    a: Kind,
+    b: Kind,
+    c: Kind,
+    p: usize,
+    n1: usize,
+    cells: usize,
+    allowance: u64,
+    vectors: &[u64],
+) {
     let mut h = [9u16; 16];
     let mut g = [9u16; 16];
     let mut aux = [9u64; 16];
@@ -95,12 +111,23 @@ fn given(a: Kind, b: Kind, c: Kind, p: usize, n1: usize, cells: usize, vectors: 
     v[0] = Variable { kind: a, part };
     v[1] = Variable { kind: b, part };
     v[2] = Variable { kind: c, part };
-    let built = unit::build_given(6, v, p, n1, cells, vectors, &mut h, &mut g, &mut aux);
+    let built = unit::build_given(
+        6,
+        v,
+        p,
+        n1,
+        cells,
+        allowance,
+        vectors,
+        &mut h,
+        &mut g,
+        &mut aux,
+    );
     say::built(built, &h, &g, &aux);
 }
 
 // The unit's three variables of SCOPE 15.3, given.
-fn the_three(p: usize, n1: usize, cells: usize, vectors: &[u64]) {
+fn three_within(p: usize, n1: usize, cells: usize, allowance: u64, vectors: &[u64]) {
     given(
         Kind::One(2),
         Kind::One(3),
@@ -108,8 +135,13 @@ fn the_three(p: usize, n1: usize, cells: usize, vectors: &[u64]) {
         p,
         n1,
         cells,
+        allowance,
         vectors,
     );
+}
+
+fn the_three(p: usize, n1: usize, cells: usize, vectors: &[u64]) {
+    three_within(p, n1, cells, PLENTY, vectors);
 }
 
 // The 25 vectors with a single 1, and the zero vector with them: refusal 11. Then 1,023 vectors.
@@ -144,8 +176,8 @@ pub(crate) fn list_refusals() {
     by_rule(6, 1, 7, &many);
     by_rule(6, 2, 0, &s);
     by_rule(6, 2, 8193, &s);
-    chosen(6, 2, 7, &s, 4096, 6, 1025);
-    chosen(6, 2, 7, &s, 4096, 8193, 7);
+    chosen(6, 2, 7, PLENTY, &s, 4096, 6, 1025);
+    chosen(6, 2, 7, PLENTY, &s, 4096, 8193, 7);
     by_rule(5, 2, 7, &s);
     by_rule(6, 2, 7, &equal);
 }
@@ -153,23 +185,93 @@ pub(crate) fn list_refusals() {
 // Refusals 8 to 10 of given variables.
 pub(crate) fn variable_refusals() {
     let s: [u64; 7] = [16, 18, 20, 28, 32, 55, 58];
-    given(Kind::One(2), Kind::One(0), Kind::Two(4, 5), 3, 2, 7, &s);
-    given(Kind::One(2), Kind::One(7), Kind::Two(4, 5), 3, 2, 7, &s);
-    given(Kind::One(2), Kind::One(3), Kind::Two(5, 4), 3, 2, 7, &s);
-    given(Kind::One(2), Kind::One(3), Kind::Two(0, 4), 3, 2, 7, &s);
-    given(Kind::One(4), Kind::One(5), Kind::Two(4, 5), 3, 2, 7, &s);
-    given(Kind::One(2), Kind::One(3), Kind::One(1), 3, 2, 7, &s);
+    given(
+        Kind::One(2),
+        Kind::One(0),
+        Kind::Two(4, 5),
+        3,
+        2,
+        7,
+        PLENTY,
+        &s,
+    );
+    given(
+        Kind::One(2),
+        Kind::One(7),
+        Kind::Two(4, 5),
+        3,
+        2,
+        7,
+        PLENTY,
+        &s,
+    );
+    given(
+        Kind::One(2),
+        Kind::One(3),
+        Kind::Two(5, 4),
+        3,
+        2,
+        7,
+        PLENTY,
+        &s,
+    );
+    given(
+        Kind::One(2),
+        Kind::One(3),
+        Kind::Two(0, 4),
+        3,
+        2,
+        7,
+        PLENTY,
+        &s,
+    );
+    given(
+        Kind::One(4),
+        Kind::One(5),
+        Kind::Two(4, 5),
+        3,
+        2,
+        7,
+        PLENTY,
+        &s,
+    );
+    given(
+        Kind::One(2),
+        Kind::One(3),
+        Kind::One(1),
+        3,
+        2,
+        7,
+        PLENTY,
+        &s,
+    );
 }
 
 // Refusals 12 and 13, and the units accepted, in tables as long as needed and longer; then a unit with no variables.
 pub(crate) fn table_refusals() {
     let s: [u64; 7] = [16, 18, 20, 28, 32, 55, 58];
-    chosen(6, 2, 7, &s, 3, 8193, 1025);
+    chosen(6, 2, 7, PLENTY, &s, 3, 8193, 1025);
     by_rule(6, 2, 6, &s);
     the_three(3, 2, 6, &s);
-    chosen(6, 2, 7, &s, 4, 7, 8);
+    chosen(6, 2, 7, PLENTY, &s, 4, 7, 8);
     by_rule(6, 2, 8192, &s);
     the_three(3, 2, 7, &s);
     let one: [u64; 1] = [16];
     by_rule(6, 1, 1, &one);
+}
+
+// Refusal 41 of both builds: just as many tries allowed as are made, one too few, and none; the same where a row has no place, and in the row
+// before that.
+pub(crate) fn allowances() {
+    let s: [u64; 7] = [16, 18, 20, 28, 32, 55, 58];
+    chosen(6, 2, 7, 15, &s, 4096, 8193, 1025);
+    chosen(6, 2, 7, 14, &s, 4096, 8193, 1025);
+    chosen(6, 2, 7, 0, &s, 4096, 8193, 1025);
+    chosen(6, 2, 6, 14, &s, 4096, 8193, 1025);
+    chosen(6, 2, 6, 13, &s, 4096, 8193, 1025);
+    chosen(6, 2, 6, 8, &s, 4096, 8193, 1025);
+    three_within(3, 2, 7, 15, &s);
+    three_within(3, 2, 7, 14, &s);
+    three_within(3, 2, 6, 14, &s);
+    three_within(3, 2, 6, 13, &s);
 }

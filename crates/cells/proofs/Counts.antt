@@ -19,7 +19,7 @@ use Rattle.input.specs.Input.{maxListed, numbersIn, inputFrom, inputOf}
 use Rattle.print.specs.Print.{fitted, refusedText}
 use Rattle.print.specs.Sentence.{sentence, sentenceOf}
 use Rattle.print.proofs.Sentences.{sentence-few}
-use Rattle.answer.specs.Make.{roomy}
+use Rattle.answer.specs.Make.{roomy, programAllowance}
 use Rattle.answer.specs.Answer.{inputText}
 use Rattle.answer.proofs.Makes.{read-is, from-numbers}
 use Rattle.cells.specs.Cells.{cellsForm, fewest, wideBuild, cellsBy, cellsOf}
@@ -66,10 +66,10 @@ module _ (text : List ℕ) (i : Input) (e : i ≡ inputOf text maxListed) where
   cells-bad b = rw (read-is text i e b, cellsBy)
 
   pub cells-good : i .good ≡ true → (b : Built) (vs h g aux : List ℕ) → vs ≡ drop 3 (numbersIn text)
-      → after b h g aux ≡ buildChosen (i .n) (i .degree) maxCells vs roomy → fewest b g ≡ cellsOf text
+      → after b h g aux ≡ buildChosen (i .n) (i .degree) maxCells programAllowance vs roomy → fewest b g ≡ cellsOf text
   unfolding cellsOf cellsBy wideBuild inputFrom
   cells-good y b vs h g aux v o =
       ap (λ (x : Outcome). fewest (x .built) (x .tables .g))
-      (o ∙ ap (λ (j : Input). buildChosen (j .n) (j .degree) maxCells vs roomy) (from-numbers text i e y)
-      ∙ ap (λ (l : List ℕ). buildChosen (getD (numbersIn text) 0 0) (getD (numbersIn text) 1 0) maxCells l roomy) v)
+      (o ∙ ap (λ (j : Input). buildChosen (j .n) (j .degree) maxCells programAllowance vs roomy) (from-numbers text i e y)
+      ∙ ap (λ (l : List ℕ). buildChosen (getD (numbersIn text) 0 0) (getD (numbersIn text) 1 0) maxCells programAllowance l roomy) v)
       ∙ rw (read-is text i e y, cellsBy)

@@ -16,7 +16,7 @@ use Rattle.input.specs.Input.{maxListed, goodText, numbersIn}
 use Rattle.print.specs.Sentence.{sentence}
 use Rattle.print.proofs.Sentences.{widest, sentence-low}
 use Rattle.print.proofs.Pages.Sizes.{refused-low}
-use Rattle.answer.specs.Make.{roomy}
+use Rattle.answer.specs.Make.{roomy, programAllowance}
 use Rattle.answer.proofs.Fits.Refused.{chosen-number}
 use Rattle.cells.proofs.Least.{wide-length}
 use Rattle.cells.specs.Cells.{lineSize, cellsForm, fewest, wideBuild, cellsBy, cellsOf}
@@ -45,7 +45,7 @@ built-low ns = go (eqb (o .built .refusal) 0) refl
         let d = getD ns 1 0 in
         let vs = drop 3 ns in
         rw (q, fewest)
-        (omega (arith, refused-low (o .built .refusal) (o .built .place) (omega (arith, chosen-number n d maxCells vs roomy)) (omega (arith, chosen-place n d maxCells vs roomy))))
+        (omega (arith, refused-low (o .built .refusal) (o .built .place) (omega (arith, chosen-number n d maxCells vs roomy)) (omega (arith, chosen-place n d maxCells programAllowance vs roomy))))
 
 -- of every text
 pub cells-fits : (text : List ℕ) → length (cellsOf text) ≤ lineSize

@@ -13,7 +13,7 @@ use Rattle.print.specs.Ascii.{ascii}
 use Rattle.print.specs.Line.{line}
 use Rattle.print.specs.Print.{refusedText}
 use Rattle.print.specs.Sentence.{sentence}
-use Rattle.answer.specs.Make.{roomy}
+use Rattle.answer.specs.Make.{roomy, programAllowance}
 use Rattle.answer.specs.Answer.{inputText}
 
 -- bytes that everything written fits into
@@ -32,7 +32,7 @@ fewest b g = elim (eqb (b .refusal) 0) [ true ↦ sentence (used g ∷ []) cells
 -- the build of the numbers of a list, whatever its L
 unfoldable pub wideBuild : List ℕ → Outcome
 unfolding buildChosen
-wideBuild ns = buildChosen (getD ns 0 0) (getD ns 1 0) maxCells (drop 3 ns) roomy
+wideBuild ns = buildChosen (getD ns 0 0) (getD ns 1 0) maxCells programAllowance (drop 3 ns) roomy
 
 unfoldable pub cellsBy : Bool → List ℕ → List ℕ
 unfolding fewest wideBuild

@@ -48,6 +48,7 @@ pub fn cells(text: &[u8], out: &mut [u8]) -> usize
         list.n,
         list.degree,
         MAX_CELLS,
+        answer::ALLOWANCE,
         &vectors[..list.count],
         &mut h,
         &mut g,

@@ -190,6 +190,6 @@ fn main() {
     let mut h = [9u16; 4];
     let mut g = [9u16; 7];
     let mut aux = [9u64; 8];
-    let b = unit::build_chosen(6, 2, 7, &s, &mut h, &mut g, &mut aux);
+    let b = unit::build_chosen(6, 2, 7, 15, &s, &mut h, &mut g, &mut aux);
     cases(b.unit, &h, &g, &aux);
 }

@@ -29,23 +29,23 @@ use Rattle.engine.specs.Calls.{keysCall, answer, answerOf, profileCall}
 
 -- ---- the build
 
-pub keys-place : (degree cells : ℕ) (keys : List Key) (t : Tables) → buildKeys degree cells keys t .built .place < placeLimit
-keys-place degree cells keys t = go (every inWidths keys) refl
+pub keys-place : (degree cells allowance : ℕ) (keys : List Key) (t : Tables) → buildKeys degree cells allowance keys t .built .place < placeLimit
+keys-place degree cells allowance keys t = go (every inWidths keys) refl
   where
-    go : (w : Bool) → every inWidths keys ≡ w → buildKeys degree cells keys t .built .place < placeLimit
-    go true w = subst (λ (o : Outcome). o .built .place < placeLimit) (keys-build degree cells keys t w) (chosen-place keyBits degree cells (map packed keys) t)
-    go false w = subst (λ (o : Outcome). o .built .place < placeLimit) (keys-wide degree cells keys t w) (omega arith)
+    go : (w : Bool) → every inWidths keys ≡ w → buildKeys degree cells allowance keys t .built .place < placeLimit
+    go true w = subst (λ (o : Outcome). o .built .place < placeLimit) (keys-build degree cells allowance keys t w) (chosen-place keyBits degree cells allowance (map packed keys) t)
+    go false w = subst (λ (o : Outcome). o .built .place < placeLimit) (keys-wide degree cells allowance keys t w) (omega arith)
 
-pub keys-needed : (degree cells : ℕ) (keys : List Key) (t : Tables) → buildKeys degree cells keys t .built .needed ≤ neededLimit
-keys-needed degree cells keys t = go (every inWidths keys) refl
+pub keys-needed : (degree cells allowance : ℕ) (keys : List Key) (t : Tables) → buildKeys degree cells allowance keys t .built .needed ≤ neededLimit
+keys-needed degree cells allowance keys t = go (every inWidths keys) refl
   where
-    go : (w : Bool) → every inWidths keys ≡ w → buildKeys degree cells keys t .built .needed ≤ neededLimit
-    go true w = subst (λ (o : Outcome). o .built .needed ≤ neededLimit) (keys-build degree cells keys t w) (chosen-needed keyBits degree cells (map packed keys) t)
-    go false w = subst (λ (o : Outcome). o .built .needed ≤ neededLimit) (keys-wide degree cells keys t w) (omega arith)
+    go : (w : Bool) → every inWidths keys ≡ w → buildKeys degree cells allowance keys t .built .needed ≤ neededLimit
+    go true w = subst (λ (o : Outcome). o .built .needed ≤ neededLimit) (keys-build degree cells allowance keys t w) (chosen-needed keyBits degree cells allowance (map packed keys) t)
+    go false w = subst (λ (o : Outcome). o .built .needed ≤ neededLimit) (keys-wide degree cells allowance keys t w) (omega arith)
 
-pub keys-left : (degree cells : ℕ) (keys : List Key) (t : Tables) → leftBy (buildKeys degree cells keys t) ≡ keysCall degree cells keys t
+pub keys-left : (degree cells allowance : ℕ) (keys : List Key) (t : Tables) → leftBy (buildKeys degree cells allowance keys t) ≡ keysCall degree cells allowance keys t
 unfolding keysCall
-keys-left degree cells keys t = refl
+keys-left degree cells allowance keys t = refl
 
 -- ---- the profile
 

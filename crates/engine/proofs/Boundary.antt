@@ -35,12 +35,12 @@ seen-back o c z = sym (seen-read (flatOf (o .built .unit)) (c z .1)) ∙ c z .0
 
 module _ (keys : List Key) (words : List ℕ) (t : Tables) (c : Called keys words t) where
   abbrev o : Outcome
-  o = buildChosen keyBits (c .degree) (c .cells) (map packed keys) (c .lent)
+  o = buildChosen keyBits (c .degree) (c .cells) (c .allowance) (map packed keys) (c .lent)
 
   -- the build of the words was accepted
   pub record Passed : Type 0 where
     pub widths : every inWidths keys ≡ true
-    pub left : keysCall (c .degree) (c .cells) keys (c .lent) ≡ leftBy o
+    pub left : keysCall (c .degree) (c .cells) (c .allowance) keys (c .lent) ≡ leftBy o
     pub none : o .built .refusal ≡ 0
     pub nowhere : o .built .place ≡ 0
     pub unneeded : o .built .needed ≡ 0
@@ -50,11 +50,11 @@ module _ (keys : List Key) (words : List ℕ) (t : Tables) (c : Called keys word
     where
       go : (w : Bool) → every inWidths keys ≡ w → Passed
       go true w =
-          let l : keysCall (c .degree) (c .cells) keys (c .lent) ≡ leftBy o = sym (keys-left (c .degree) (c .cells) keys (c .lent)) ∙ ap leftBy (sym (keys-build (c .degree) (c .cells) keys (c .lent) w)) in
+          let l : keysCall (c .degree) (c .cells) (c .allowance) keys (c .lent) ≡ leftBy o = sym (keys-left (c .degree) (c .cells) (c .allowance) keys (c .lent)) ∙ ap leftBy (sym (keys-build (c .degree) (c .cells) (c .allowance) keys (c .lent) w)) in
           let e = ap (λ (m : Left). m .answer) (sym l) ∙ c .accepted in
           record { widths = w; left = l; none = omega arith; nowhere = omega arith; unneeded = omega arith }
       go false w =
-          let l = sym (keys-left (c .degree) (c .cells) keys (c .lent)) ∙ ap leftBy (sym (keys-wide (c .degree) (c .cells) keys (c .lent) w)) in
+          let l = sym (keys-left (c .degree) (c .cells) (c .allowance) keys (c .lent)) ∙ ap leftBy (sym (keys-wide (c .degree) (c .cells) (c .allowance) keys (c .lent) w)) in
           let e = ap (λ (m : Left). m .answer) (sym l) ∙ c .accepted in
           absurd (omega arith)
 
@@ -66,13 +66,14 @@ module _ (keys : List Key) (words : List ℕ) (t : Tables) (c : Called keys word
 
   pub called-built : BuiltOf buildChosen keys (unitSeen words) t
   called-built =
-      let by : keysBy buildChosen (c .degree) (c .cells) keys (c .lent) ≡ o = rw (passed .widths, keysBy) in
+      let by : keysBy buildChosen (c .degree) (c .cells) (c .allowance) keys (c .lent) ≡ o = rw (passed .widths, keysBy) in
       record {
         degree = c .degree;
         cells = c .cells;
+        allowance = c .allowance;
         lent = c .lent;
         accepted = ap (λ (q : Outcome). q .built .refusal) by ∙ passed .none;
-        unit = ap unitSeen record-was ∙ seen-back o (chosen-carried keyBits (c .degree) (c .cells) (map packed keys) (c .lent)) (passed .none) ∙ sym (ap (λ (q : Outcome). q .built .unit) by);
+        unit = ap unitSeen record-was ∙ seen-back o (chosen-carried keyBits (c .degree) (c .cells) (c .allowance) (map packed keys) (c .lent)) (passed .none) ∙ sym (ap (λ (q : Outcome). q .built .unit) by);
         tables = tables-were ∙ sym (ap (λ (q : Outcome). q .tables) by);
       }
 
@@ -95,28 +96,29 @@ module _ (keys : List Key) (words : List ℕ) (t : Tables) (c : CalledByFile key
   accepted-made = passed keys (c .before) (c .tables) d .none
 
   flat : Carried made
-  flat = chosen-carried keyBits (d .degree) (d .cells) vs (d .lent)
+  flat = chosen-carried keyBits (d .degree) (d .cells) (d .allowance) vs (d .lent)
 
   -- what was read
   was-read : readCall (take (writeCall (c .before) (c .tables) (c .target) .answer / 256) (writeCall (c .before) (c .tables) (c .target) .target)) (c .into) ≡ leftBy (carried readOf (c .into) made)
   was-read =
       ap₂ (λ (w : List ℕ) (s : Tables). readCall (take (writeCall w s (c .target) .answer / 256) (writeCall w s (c .target) .target)) (c .into)) (record-was keys (c .before) (c .tables) d) (tables-were keys (c .before) (c .tables) d)
       ∙ ap (λ (bytes : List ℕ). readCall bytes (c .into))
-      (front (made .built .unit) (made .tables) (flat accepted-made .1) (flat accepted-made .0) (chosen-holds keyBits (d .degree) (d .cells) vs (d .lent) accepted-made .is-sound) (c .target) (c .room))
-      ∙ read-left keyBits vs made flat (chosen-holds keyBits (d .degree) (d .cells) vs (d .lent)) (chosen-record-carried keyBits (d .degree) (d .cells) vs (d .lent))
-      (λ into roomy. carried-chosen-demand-2 into roomy keyBits (d .degree) (d .cells) vs (d .lent)) accepted-made (passed keys (c .before) (c .tables) d .nowhere) (passed keys (c .before) (c .tables) d .unneeded) (c .into) (c .roomy)
+      (front (made .built .unit) (made .tables) (flat accepted-made .1) (flat accepted-made .0) (chosen-holds keyBits (d .degree) (d .cells) (d .allowance) vs (d .lent) accepted-made .is-sound) (c .target) (c .room))
+      ∙ read-left keyBits vs made flat (chosen-holds keyBits (d .degree) (d .cells) (d .allowance) vs (d .lent)) (chosen-record-carried keyBits (d .degree) (d .cells) (d .allowance) vs (d .lent))
+      (λ into roomy. carried-chosen-demand-2 into roomy keyBits (d .degree) (d .cells) (d .allowance) vs (d .lent)) accepted-made (passed keys (c .before) (c .tables) d .nowhere) (passed keys (c .before) (c .tables) d .unneeded) (c .into) (c .roomy)
 
   flat-carried : Carried (carried readOf (c .into) made)
   flat-carried =
-      flat-read keyBits vs made flat (chosen-holds keyBits (d .degree) (d .cells) vs (d .lent)) (chosen-record-carried keyBits (d .degree) (d .cells) vs (d .lent))
-      (λ into roomy. carried-chosen-demand-2 into roomy keyBits (d .degree) (d .cells) vs (d .lent)) accepted-made (c .into) (c .roomy)
+      flat-read keyBits vs made flat (chosen-holds keyBits (d .degree) (d .cells) (d .allowance) vs (d .lent)) (chosen-record-carried keyBits (d .degree) (d .cells) (d .allowance) vs (d .lent))
+      (λ into roomy. carried-chosen-demand-2 into roomy keyBits (d .degree) (d .cells) (d .allowance) vs (d .lent)) accepted-made (c .into) (c .roomy)
 
   pub file-built : BuiltOf build keys (unitSeen words) t
   file-built =
-      let by : keysBy build (d .degree) (d .cells) keys (d .lent) ≡ carried readOf (c .into) made = rw (passed keys (c .before) (c .tables) d .widths, keysBy) in
+      let by : keysBy build (d .degree) (d .cells) (d .allowance) keys (d .lent) ≡ carried readOf (c .into) made = rw (passed keys (c .before) (c .tables) d .widths, keysBy) in
       record {
         degree = d .degree;
         cells = d .cells;
+        allowance = d .allowance;
         lent = d .lent;
         accepted = ap (λ (q : Outcome). q .built .refusal) by ∙ accepted-made;
         unit = ap unitSeen (c .record-is ∙ ap (λ (m : Left). m .words) was-read) ∙ seen-back (carried readOf (c .into) made) flat-carried accepted-made ∙ sym (ap (λ (q : Outcome). q .built .unit) by);

@@ -19,10 +19,11 @@ use Rattle.engine.specs.Calls.{keysCall, answerOf, profileCall}
 pub record Called (keys : List Key) (words : List ℕ) (t : Tables) : Type 0 where
   pub degree : ℕ
   pub cells : ℕ
+  pub allowance : ℕ
   pub lent : Tables
-  pub accepted : keysCall degree cells keys lent .answer ≡ 0
-  pub record-is : words ≡ keysCall degree cells keys lent .words
-  pub tables-are : t ≡ keysCall degree cells keys lent .tables
+  pub accepted : keysCall degree cells allowance keys lent .answer ≡ 0
+  pub record-is : words ≡ keysCall degree cells allowance keys lent .words
+  pub tables-are : t ≡ keysCall degree cells allowance keys lent .tables
 
 -- .. or as igu_read left them, of the bytes that igu_write gave for such, with tables and a target that are long enough
 pub record CalledByFile (keys : List Key) (words : List ℕ) (t : Tables) : Type 0 where

@@ -12,9 +12,9 @@ use Rattle.profiles.specs.Keys.{buildKeys}
 use Rattle.profiles.specs.Place.{slabOf, placeOf}
 
 -- the build of keys: the answer, the record and every word of H, G and AUX
-unfoldable pub keysCall : ℕ → ℕ → List Key → Tables → Left
+unfoldable pub keysCall : ℕ → ℕ → ℕ → List Key → Tables → Left
 unfolding buildKeys flatOf
-keysCall degree cells keys t = leftBy (buildKeys degree cells keys t)
+keysCall degree cells allowance keys t = leftBy (buildKeys degree cells allowance keys t)
 
 abbrev pub whoseWord : Whose → ℕ
 whoseWord House = 0

@@ -18,11 +18,12 @@ fn answer(refusal: u8, number: usize, above: usize) -> u64
     refusal as u64 + 256 * (number as u64) + 0x1_0000_0000 * (above as u64)
 }
 
-// The chosen build of a list of keys. The answer is the refusal, 256 times the place and 2^32 times the cells needed.
+// The chosen build of a list of keys, with an allowance of tries. The answer is the refusal, 256 times the place and 2^32 times the cells needed.
 #[no_mangle]
 pub extern "C" fn igu_profiles_build(
     degree: usize,
     cells: usize,
+    allowance: u64,
     keys: &[[u32; 5]],
     h: &mut [u16],
     g: &mut [u16],
@@ -30,9 +31,9 @@ pub extern "C" fn igu_profiles_build(
     words: &mut [u64; WORDS],
 ) -> u64
     ensures { λ r. ⌜ left r (now (words .exit)) (lent (now (h .exit)) (now (g .exit)) (now (aux .exit)))
-        ≡ keysCall degree cells (map keyOf (now (keys .entry))) (lent (now (h .entry)) (now (g .entry)) (now (aux .entry))) ⌝ }
+        ≡ keysCall degree cells allowance (map keyOf (now (keys .entry))) (lent (now (h .entry)) (now (g .entry)) (now (aux .entry))) ⌝ }
 {
-    let built = profiles::build(degree, cells, keys, h, g, aux);
+    let built = profiles::build(degree, cells, allowance, keys, h, g, aux);
     let unit = built.unit;
     *words = bridge::flat::words(unit);
     answer(built.refusal, built.place, built.needed)

@@ -127,7 +127,7 @@ carried read into o =
     record { built = record { refusal = o .built .refusal; place = o .built .place; needed = o .built .needed; unit = r .unit }; tables = r .tables }
 
 abbrev pub carriedChosen : Reader → Tables → ChosenBuild → ChosenBuild
-carriedChosen read into build n degree cells vs t = carried read into (build n degree cells vs t)
+carriedChosen read into build n degree cells allowance vs t = carried read into (build n degree cells allowance vs t)
 
 abbrev pub carriedGiven : Reader → Tables → GivenBuild → GivenBuild
-carriedGiven read into build n variables p n1 cells vs t = carried read into (build n variables p n1 cells vs t)
+carriedGiven read into build n variables p n1 cells allowance vs t = carried read into (build n variables p n1 cells allowance vs t)

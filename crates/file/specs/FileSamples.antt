@@ -13,7 +13,7 @@ use Rattle.file.specs.Write.{refused, writeOf}
 
 -- the unit, lent a word more in each table than it has
 abbrev built : Outcome
-built = buildChosen 6 2 7 S (nines 5 8 9)
+built = buildChosen 6 2 7 15 S (nines 5 8 9)
 
 abbrev file : List ℕ
 file = fileOf (built .built .unit) (built .tables)

@@ -11,7 +11,7 @@ use Rattle.find.specs.Keys.{noKey, keyOf}
 use Rattle.find.specs.Find.{inputText, findText}
 
 abbrev built : Outcome
-built = buildChosen 6 2 7 S (nines 5 8 9)
+built = buildChosen 6 2 7 15 S (nines 5 8 9)
 
 abbrev found : List ℕ → List ℕ
 found text = findText text (built .built .unit) (built .tables)

@@ -10,7 +10,7 @@ use Rattle.lists.specs.Members.{every}
 use Rattle.print.specs.Print.{refusedText}
 use Rattle.print.proofs.Pages.Sizes.{refused-low}
 use Rattle.input.specs.Input.{maxText}
-use Rattle.answer.specs.Make.{roomy}
+use Rattle.answer.specs.Make.{roomy, programAllowance}
 use Rattle.answer.specs.Answer.{inputText}
 use Rattle.pack.specs.Pack.{pageSize, packed}
 use Rattle.pack.proofs.Fits.{built-low}
@@ -23,13 +23,13 @@ use Rattle.build.specs.Build.{Outcome}
 use Rattle.dated.specs.Dated.{keyIn}
 use Rattle.keys.specs.Keys.{body, linesIn, goodLines, cellsBy, linesText, keysText, askedOf, keysOf}
 
-built-few : (degree cells : ℕ) (ks : List Key) → length (packed (buildKeys degree cells ks roomy)) ≤ pageSize
+built-few : (degree cells : ℕ) (ks : List Key) → length (packed (buildKeys degree cells programAllowance ks roomy)) ≤ pageSize
 unfolding packed
 built-few degree cells ks = go (every inWidths ks) refl
   where
-    go : (b : Bool) → every inWidths ks ≡ b → length (packed (buildKeys degree cells ks roomy)) ≤ pageSize
-    go true w = omega (arith, built-low keyBits degree cells (map key.packed ks) roomy, ap (λ (o : Outcome). length (packed o)) (keys-build degree cells ks roomy w))
-    go false w = omega (arith, refused-low 30 0 (omega arith) (omega arith), ap (λ (o : Outcome). length (packed o)) (keys-wide degree cells ks roomy w))
+    go : (b : Bool) → every inWidths ks ≡ b → length (packed (buildKeys degree cells programAllowance ks roomy)) ≤ pageSize
+    go true w = omega (arith, built-low keyBits degree cells (map key.packed ks) roomy, ap (λ (o : Outcome). length (packed o)) (keys-build degree cells programAllowance ks roomy w))
+    go false w = omega (arith, refused-low 30 0 (omega arith) (omega arith), ap (λ (o : Outcome). length (packed o)) (keys-wide degree cells programAllowance ks roomy w))
 
 lines-few : (degree cells : ℕ) (bytes : List ℕ) → length (linesText degree cells bytes) ≤ pageSize
 unfolding linesText

@@ -9,7 +9,7 @@ use Rattle.input.specs.Opens.{opens}
 use Rattle.input.specs.Input.{maxText, maxListed, inputOf}
 use Rattle.print.specs.Ascii.{ascii}
 use Rattle.print.specs.Line.{newline}
-use Rattle.answer.specs.Make.{roomy}
+use Rattle.answer.specs.Make.{roomy, programAllowance}
 use Rattle.answer.specs.Answer.{inputText}
 use Rattle.pack.specs.Pack.{packed}
 use Rattle.profiles.specs.Keys.{buildKeys}
@@ -58,7 +58,7 @@ unfoldable pub linesText : ℕ → ℕ → List ℕ → List ℕ
 unfolding goodLines linesFrom keyIn cellsBy buildKeys packed
 linesText degree cells bytes =
     elim (goodLines bytes) [
-      | true ↦ packed (buildKeys degree (cellsBy cells (length (linesIn bytes))) (map keyIn (linesIn bytes)) roomy)
+      | true ↦ packed (buildKeys degree (cellsBy cells (length (linesIn bytes))) programAllowance (map keyIn (linesIn bytes)) roomy)
       | false ↦ inputText
     ]
 

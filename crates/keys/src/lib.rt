@@ -117,6 +117,7 @@ fn pack_lines(degree: usize, cells: usize, lines: &[u8], out: &mut [u8]) -> usiz
         KEY_BITS,
         degree,
         cells_by(cells, count),
+        answer::ALLOWANCE,
         &words[..count],
         &mut h,
         &mut g,

@@ -8,7 +8,7 @@ use Rattle.print.specs.Ascii.{ascii}
 use Rattle.listing.specs.Listing.{listText}
 
 abbrev built : Outcome
-built = buildChosen 6 2 7 S (nines 5 8 9)
+built = buildChosen 6 2 7 15 S (nines 5 8 9)
 
 -- without index 6
 abbrev damaged : Tables

@@ -13,7 +13,7 @@ use Rattle.build.proofs.Places.{chosen-place}
 use Rattle.build.proofs.Holding.Holds.{chosen-holds}
 use Rattle.print.proofs.Pages.Sizes.{refused-low}
 use Rattle.file.proofs.Outcomes.{file-few}
-use Rattle.answer.specs.Make.{roomy, makeOf}
+use Rattle.answer.specs.Make.{roomy, programAllowance, makeOf}
 use Rattle.answer.proofs.Makes.{of-builds}
 use Rattle.answer.proofs.Fits.Refused.{chosen-number}
 use Rattle.pack.specs.Pack.{pageSize, packed, packOf}
@@ -21,7 +21,7 @@ use Rattle.pack.proofs.Packs.{packed-accepted, packed-refused, packed-b
 
 module _ (n degree cells : ℕ) (vs : List ℕ) (t : Tables) where
   abbrev o : Outcome
-  o = buildChosen n degree cells vs t
+  o = buildChosen n degree cells programAllowance vs t
 
   pub built-low : length (packed o) ≤ pageSize
   built-low = go (eqb (o .built .refusal) 0) refl
@@ -29,9 +29,9 @@ module _ (n degree cells : ℕ) (vs : List ℕ) (t : Tables) where
       go : (q : Bool) → eqb (o .built .refusal) 0 ≡ q → length (packed o) ≤ pageSize
       go true q =
           let e = eqb-true (o .built .refusal) 0 q in
-          omega (arith, file-few (o .built .unit) (o .tables) (chosen-holds n degree cells vs t e .is-sound), ap length (packed-accepted o e))
+          omega (arith, file-few (o .built .unit) (o .tables) (chosen-holds n degree cells programAllowance vs t e .is-sound), ap length (packed-accepted o e))
       go false q =
-          let l = refused-low (o .built .refusal) (o .built .place) (omega (arith, chosen-number n degree cells vs t)) (omega (arith, chosen-place n degree cells vs t)) in
+          let l = refused-low (o .built .refusal) (o .built .place) (omega (arith, chosen-number n degree cells vs t)) (omega (arith, chosen-place n degree cells programAllowance vs t)) in
           omega (arith, l, ap length (packed-refused o (eqb-false (o .built .refusal) 0 q)))
 
 -- of every text

@@ -37,12 +37,12 @@ no-first vs n zero j l k s = omega arith
 no-first vs n (suc m) j l k s =
     n (suc j) (record { entry = j; numbered = refl; listed = k; is = s; none-before = λ i p q. no-first vs n m i (omega arith) (omega arith) q })
 
-pub chosen-distinct : (n degree cells : ℕ) (vs : List ℕ) (t : Tables) → buildChosen n degree cells vs t .built .refusal ≡ 0
+pub chosen-distinct : (n degree cells allowance : ℕ) (vs : List ℕ) (t : Tables) → buildChosen n degree cells allowance vs t .built .refusal ≡ 0
     → (i j : ℕ) → i < j → j < length vs → getD vs i 0 ≡ getD vs j 0 → ⊥
-chosen-distinct n degree cells vs t z i j l k e =
-    let o = buildChosen n degree cells vs t in
+chosen-distinct n degree cells allowance vs t z i j l k e =
+    let o = buildChosen n degree cells allowance vs t in
     let r = o .built .refusal in
-    let one = past r 1 z (λ q. omega arith) (chosen-demand-1 n degree cells vs t .refusal) in
+    let one = past r 1 z (λ q. omega arith) (chosen-demand-1 n degree cells allowance vs t .refusal) in
     let two = past r 2 z (λ q. omega arith) (one .1) in
     let three = past r 3 z (λ q. omega arith) (two .1) in
     let four = past r 4 z (λ q. omega arith) (three .1) in
@@ -60,7 +60,7 @@ module _ (build : ChosenBuild) (sure : Sure build) (keys : List Key) (u : Record
   -- every key was within its widths, and the words were accepted
   pub record Accepted : Type 0 where
     pub widths : every inWidths keys ≡ true
-    pub is : keysBy build (b .degree) (b .cells) keys (b .lent) ≡ build keyBits (b .degree) (b .cells) words (b .lent)
+    pub is : keysBy build (b .degree) (b .cells) (b .allowance) keys (b .lent) ≡ build keyBits (b .degree) (b .cells) (b .allowance) words (b .lent)
 
   accepted : Accepted
   accepted = go (every inWidths keys) refl
@@ -68,19 +68,19 @@ module _ (build : ChosenBuild) (sure : Sure build) (keys : List Key) (u : Record
       go : (w : Bool) → every inWidths keys ≡ w → Accepted
       go true w = record { widths = w; is = rw (w, keysBy) }
       go false w =
-          let e : keysBy build (b .degree) (b .cells) keys (b .lent) ≡ refused (record { number = 30; place = 0 }) (b .lent) = rw (w, keysBy) in
+          let e : keysBy build (b .degree) (b .cells) (b .allowance) keys (b .lent) ≡ refused (record { number = 30; place = 0 }) (b .lent) = rw (w, keysBy) in
           let z : _≡_ {A = ℕ} 30 0 = sym (ap (λ (o : Outcome). o .built .refusal) e) ∙ b .accepted in
           absurd (omega arith)
 
-  refusal-none : build keyBits (b .degree) (b .cells) words (b .lent) .built .refusal ≡ 0
+  refusal-none : build keyBits (b .degree) (b .cells) (b .allowance) words (b .lent) .built .refusal ≡ 0
   refusal-none = sym (ap (λ (o : Outcome). o .built .refusal) (accepted .is)) ∙ b .accepted
 
   -- a lookup is accepted, and goes by the list
   pub knows : (key : Key) → inWidths key ≡ true → lookupOf u t (packed key) ≡ found (indexOf words (packed key))
   knows key w =
       ap (λ (v : Record). lookupOf v t (packed key)) (b .unit ∙ ap (λ (o : Outcome). o .built .unit) (accepted .is))
-      ∙ ap (λ (s : Tables). lookupOf (build keyBits (b .degree) (b .cells) words (b .lent) .built .unit) s (packed key)) (b .tables ∙ ap (λ (o : Outcome). o .tables) (accepted .is))
-      ∙ sure .exact keyBits (b .degree) (b .cells) words (b .lent) .lookup-exact refusal-none (packed key) (packed-low key w)
+      ∙ ap (λ (s : Tables). lookupOf (build keyBits (b .degree) (b .cells) (b .allowance) words (b .lent) .built .unit) s (packed key)) (b .tables ∙ ap (λ (o : Outcome). o .tables) (accepted .is))
+      ∙ sure .exact keyBits (b .degree) (b .cells) (b .allowance) words (b .lent) .lookup-exact refusal-none (packed key) (packed-low key w)
 
   word-at : (i : ℕ) (d : Key) → i < length keys → getD words i 0 ≡ packed (getD keys i d)
   word-at i d l = getD-map packed keys i d 0 l
@@ -95,7 +95,7 @@ module _ (build : ChosenBuild) (sure : Sure build) (keys : List Key) (u : Record
       let f : FirstEqual words (packed (getD keys i d)) i = record {
         below = n;
         equal = word-at i d l;
-        first = λ a k e. sure .distinct keyBits (b .degree) (b .cells) words (b .lent) refusal-none a i k n (e ∙ sym (word-at i d l));
+        first = λ a k e. sure .distinct keyBits (b .degree) (b .cells) (b .allowance) words (b .lent) refusal-none a i k n (e ∙ sym (word-at i d l));
       } in
       knows (getD keys i d) (own-widths i d l) ∙ ap found (equal-first words (packed (getD keys i d)) i f)
 

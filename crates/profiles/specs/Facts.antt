@@ -27,17 +27,18 @@ pub record Tells (pack : Key → ℕ) : Type 0 where
 -- a build whose units answer exactly, and that accepts no list with two equal vectors
 pub record Sure (build : ChosenBuild) : Type 0 where
   pub exact : Demand2Chosen build lookupOf recoverOf
-  pub distinct : (n degree cells : ℕ) (vs : List ℕ) (t : Tables) → build n degree cells vs t .built .refusal ≡ 0
+  pub distinct : (n degree cells allowance : ℕ) (vs : List ℕ) (t : Tables) → build n degree cells allowance vs t .built .refusal ≡ 0
       → (i j : ℕ) → i < j → j < length vs → getD vs i 0 ≡ getD vs j 0 → ⊥
 
 -- record and tables as a build left them that accepted the list of keys
 pub record BuiltOf (build : ChosenBuild) (keys : List Key) (u : Record) (t : Tables) : Type 0 where
   pub degree : ℕ
   pub cells : ℕ
+  pub allowance : ℕ
   pub lent : Tables
-  pub accepted : keysBy build degree cells keys lent .built .refusal ≡ 0
-  pub unit : u ≡ keysBy build degree cells keys lent .built .unit
-  pub tables : t ≡ keysBy build degree cells keys lent .tables
+  pub accepted : keysBy build degree cells allowance keys lent .built .refusal ≡ 0
+  pub unit : u ≡ keysBy build degree cells allowance keys lent .built .unit
+  pub tables : t ≡ keysBy build degree cells allowance keys lent .tables
 
 -- the brand's unit, keys and slab, and the house's
 pub record Slabs : Type 0 where

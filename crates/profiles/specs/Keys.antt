@@ -10,13 +10,13 @@ use Rattle.profiles.specs.declared.Key.{Key}
 use Rattle.profiles.specs.Key.{keyBits, inWidths, packed}
 
 -- by any build: refusal 30 where a key has a field over its width; else the build of the packed keys
-abbrev pub keysBy : ChosenBuild → ℕ → ℕ → List Key → Tables → Outcome
-keysBy build degree cells keys t =
+abbrev pub keysBy : ChosenBuild → ℕ → ℕ → ℕ → List Key → Tables → Outcome
+keysBy build degree cells allowance keys t =
     elim (every inWidths keys) [
-      | true ↦ build keyBits degree cells (map packed keys) t
+      | true ↦ build keyBits degree cells allowance (map packed keys) t
       | false ↦ refused (record { number = 30; place = 0 }) t
     ]
 
-unfoldable pub buildKeys : ℕ → ℕ → List Key → Tables → Outcome
+unfoldable pub buildKeys : ℕ → ℕ → ℕ → List Key → Tables → Outcome
 unfolding every inWidths packed
-buildKeys degree cells keys t = keysBy buildChosen degree cells keys t
+buildKeys degree cells allowance keys t = keysBy buildChosen degree cells allowance keys t

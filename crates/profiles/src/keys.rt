@@ -100,17 +100,18 @@ fn pack_all(keys: &[[u32; 5]], m: usize, words: &mut [u64])
     }
 }
 
-// The chosen build of a list of keys.
+// The chosen build of a list of keys, with an allowance of tries.
 pub fn build(
     degree: usize,
     cells: usize,
+    allowance: u64,
     keys: &[[u32; 5]],
     h: &mut [u16],
     g: &mut [u16],
     aux: &mut [u64],
 ) -> Built
     ensures { λ r. ⌜ after r (now (h .exit)) (now (g .exit)) (now (aux .exit))
-        ≡ buildKeys degree cells (map keyOf (now (keys .entry))) (lent (now (h .entry)) (now (g .entry)) (now (aux .entry))) ⌝ }
+        ≡ buildKeys degree cells allowance (map keyOf (now (keys .entry))) (lent (now (h .entry)) (now (g .entry)) (now (aux .entry))) ⌝ }
 {
     if !all_in_widths(keys) {
         let unit = record::blank();
@@ -125,5 +126,5 @@ pub fn build(
     let m = lists::least(keys.len(), MAX_WORDS);
     let mut words = [0u64; MAX_WORDS];
     pack_all(keys, m, &mut words);
-    unit::build_chosen(KEY_BITS, degree, cells, &words[..m], h, g, aux)
+    unit::build_chosen(KEY_BITS, degree, cells, allowance, &words[..m], h, g, aux)
 }

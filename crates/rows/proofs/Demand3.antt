@@ -16,7 +16,7 @@ use Rattle.rows.specs.Fit.{cellOf, inside, firstFit}
 use Rattle.rows.specs.Place.{Placing, place}
 use Rattle.rows.specs.Demand.{filled, Ahead, Falling, Once, Smallest, Bounded, triesOf, boundOf, Spread, spread, Columns}
 use Rattle.rows.specs.declared.End.{End}
-use Rattle.rows.specs.declared.End.the-variants.{All, NoFit, Unfit}
+use Rattle.rows.specs.declared.End.the-variants.{All, NoFit, Over, Unfit}
 use Rattle.rows.specs.declared.Fit.the-variants.{None}
 use Rattle.rows.proofs.Fits.Bound.{first-fits}
 use Rattle.rows.proofs.Placing.Open.{open-none}
@@ -125,6 +125,7 @@ module _ (cs : List Care) (h g : List ℕ) where
         go : (e : End) → P .end ≡ e → P .end ≡ All
         go All q = q
         go (NoFit r tried cells) q = let n = ended cs h g .no-fit r tried cells q in absurd (next-fits columns l c r tried cells (n .0) (n .1))
+        go (Over r) q = absurd (ended cs h g .not-over r q)
         go Unfit q = absurd (ended cs h g .not-unfit q)
 
 -- the test of the spread condition says it for every j

@@ -5,6 +5,9 @@ pub mod Turns
 pub mod Order
 pub mod Spreads
 pub mod Counts
+pub mod Allowed
+pub mod Within
+pub mod Most
 pub mod Smallest
 pub mod Held
 pub mod Wider

@@ -7,7 +7,8 @@ use lib.ListN.{length, drop, replicate}
 use Rattle.vectors.specs.Bounds.{maxCells, maxWords, maxRows}
 use Rattle.rows.specs.Care.{Care, caresBy}
 use Rattle.rows.specs.Place.{Placing, place}
-use Rattle.rows.specs.declared.End.the-variants.{All, NoFit, Unfit}
+use Rattle.rows.specs.Allowance.{endWithin}
+use Rattle.rows.specs.declared.End.the-variants.{All, NoFit, Over, Unfit}
 use Rattle.rows.specs.declared.Placed.{Placed}
 
 -- ---- the words of AUX
@@ -75,26 +76,27 @@ pub record Left : Type 0 where
 abbrev pub left : Placed → List ℕ → List ℕ → Left
 left r h g = record { answer = r; h = h; g = g }
 
--- the answer, and H and G at the end of a placing; where a row has no displacement, as they were before it (no placing ends with Unfit)
-unfoldable pub settle : Placing → List ℕ → List ℕ → Left
-settle P h g =
-    let answer : Placed = record { end = P .end; tries = P .state .tries } in
-    elim (P .end) [
-      | All ↦ left answer (P .state .h) (P .state .g)
-      | NoFit row tried cells ↦ left answer h g
-      | Unfit ↦ left answer h g
+-- the answer, and H and G at the end of a placing with an allowance of a tries; where not all rows are placed, as they were before it (no placing ends with Unfit)
+unfoldable pub settle : ℕ → Placing → List ℕ → List ℕ → Left
+unfolding endWithin
+settle a P h g =
+    elim (endWithin a P) [
+      | All ↦ left (record { end = All; tries = P .state .tries }) (P .state .h) (P .state .g)
+      | NoFit row tried cells ↦ left (record { end = NoFit row tried cells; tries = P .state .tries }) h g
+      | Over row ↦ left (record { end = Over row; tries = 0 }) h g
+      | Unfit ↦ left (record { end = Unfit; tries = 0 }) h g
     ]
 
--- the vectors placed into so many rows, over the cells g
-unfoldable pub settled : List Care → ℕ → List ℕ → Left
+-- the vectors placed into so many rows, over the cells g, with an allowance of a tries
+unfoldable pub settled : ℕ → List Care → ℕ → List ℕ → Left
 unfolding settle place
-settled cs rows g = let blank = replicate {A = ℕ} rows 0 in settle (place cs blank g) blank g
+settled a cs rows g = let blank = replicate {A = ℕ} rows 0 in settle a (place cs blank g) blank g
 
 -- the rows of AUX's vectors placed over the cells as they are lent, whatever stands in H
-unfoldable pub placed : List ℕ → List ℕ → List ℕ → ℕ → Left
+unfoldable pub placed : List ℕ → List ℕ → List ℕ → ℕ → ℕ → Left
 unfolding unfit settled caresIn
-placed aux h g owner =
+placed aux h g owner a =
     elim (unfit aux (length h) (length g) owner) [
       | true ↦ left (record { end = Unfit; tries = 0 }) h g
-      | false ↦ settled (caresOf owner aux) (length h) g
+      | false ↦ settled a (caresOf owner aux) (length h) g
     ]

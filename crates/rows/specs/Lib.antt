@@ -3,6 +3,7 @@ pub mod Fit
 pub mod Place
 pub mod Demand
 pub mod Needed
+pub mod Allowance
 pub mod Answer
 pub mod Single
 pub mod Inner

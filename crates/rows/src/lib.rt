@@ -24,14 +24,15 @@ pub enum Fit {
 }
 
 // Whether all rows are placed; or the row that has no displacement, how many were tried, and the least number of cells with which it would
-// have one after the same earlier rows; or what was lent cannot be placed.
+// have one after the same earlier rows; or the row in hand when the tries exceed the allowance; or what was lent cannot be placed.
 pub enum End {
     All,
     NoFit(usize, usize, usize),
+    Over(usize),
     Unfit,
 }
 
-// How the placing ended, and the sum of the displacements and one each of the rows placed.
+// How the placing ended, and the sum of the displacements and one each of the rows placed, 0 where the allowance is exceeded.
 pub struct Placed {
     pub end: End,
     pub tries: u64,
@@ -79,10 +80,11 @@ fn unfit(aux: &[u64], rows: usize, cells: usize, owner: u16) -> bool
 
 // Places the rows, heavy ones before light ones and of equals the lower first, each at the smallest displacement at which its cells are
 // free: a cell is free while its word is 0. AUX has a word for each vector after the first, row + MAX_ROWS * column; H has one for each
-// row, and G one for each cell. Vector i is written into its cell as owner + i: two owners can share a G. Where a row has no place, H is 0
-// and G as it was lent. What cannot be placed is answered so, and nothing is written. AUX is left as it was lent.
-pub fn place(aux: &mut [u64], h: &mut [u16], g: &mut [u16], owner: u16) -> Placed
-    ensures { λ r. ⌜ left r (now (h .exit)) (now (g .exit)) ≡ placed (now (aux .entry)) (now (h .entry)) (now (g .entry)) owner ⌝ }
+// row, and G one for each cell. Vector i is written into its cell as owner + i: two owners can share a G. Where a row has no place, or more
+// displacements would be tried than the allowance says, H is 0 and G as it was lent. What cannot be placed is answered so, and nothing is
+// written. AUX is left as it was lent.
+pub fn place(aux: &mut [u64], h: &mut [u16], g: &mut [u16], owner: u16, allowance: u64) -> Placed
+    ensures { λ r. ⌜ left r (now (h .exit)) (now (g .exit)) ≡ placed (now (aux .entry)) (now (h .entry)) (now (g .entry)) owner allowance ⌝ }
     ensures { λ _. ⌜ now (aux .exit) ≡ now (aux .entry) ⌝ }
 {
     if unfit(aux, h.len(), g.len(), owner) {
@@ -94,7 +96,7 @@ pub fn place(aux: &mut [u64], h: &mut [u16], g: &mut [u16], owner: u16) -> Place
     links::link(aux, h);
     let mut taken = [0u64; room::TAKEN_WORDS];
     room::take_cells(g, &mut taken);
-    let placed = sweep::place_rows(aux, h, g, &mut taken, owner);
+    let placed = sweep::place_rows(aux, h, g, &mut taken, owner, allowance);
     links::unlink(aux);
     placed
 }

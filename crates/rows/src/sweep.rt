@@ -1,7 +1,7 @@
 // The rows in their order: a sweep for each weight.
 ghost use mathlib.Core.Path.{_≡_};
 ghost use Prim.Native.Nat.{_+_, _^_, _≤_, _<_};
-ghost use lib.ListN.{length};
+ghost use lib.ListN.{length, replicate};
 ghost use Rattle.lists.specs.Members.{All};
 ghost use Rattle.vectors.specs.Bounds.{maxCells, maxWords, maxRows};
 ghost use Rattle.rows.specs.Answer.{caresIn, caresOf, left, settled};
@@ -18,9 +18,10 @@ use crate::links::weight_from;
 use crate::room;
 use crate::room::TAKEN_WORDS;
 
-// Empties the cells of the rows that are placed.
-fn undo(aux: &[u64], h: &[u16], g: &mut [u16])
+// Takes the placing back: empties the cells of the rows that are placed, and H.
+fn undo(aux: &[u64], h: &mut [u16], g: &mut [u16])
     requires { ⌜ All (Within (now h) (length (now g))) (caresIn (now aux)) ⌝ }
+    ensures { λ _. ⌜ now (h .exit) ≡ replicate (length (now (h .entry))) 0 ⌝ }
     ensures { λ _. ⌜ now (g .exit) ≡ undone (now (h .entry)) (caresIn (now (aux .entry))) (now (g .entry)) ⌝ }
 {
     let mut i = 1;
@@ -32,6 +33,7 @@ fn undo(aux: &[u64], h: &[u16], g: &mut [u16])
             g[column(w) + d as usize] = 0;
         }
     }
+    lists::clear16(h);
 }
 
 // Places the row at its first fit; first is the first of its vectors.
@@ -62,13 +64,14 @@ fn place_row(
 }
 
 // Places the marked rows. A sweep over the rows in rising order places those whose weight is the level, and finds the greatest weight
-// below it, which is the level of the next.
+// below it, which is the level of the next. The tries of a row are compared with the allowance after its first fit.
 pub(crate) fn place_rows(
     aux: &[u64],
     h: &mut [u16],
     g: &mut [u16],
     taken: &mut [u64; TAKEN_WORDS],
     owner: u16,
+    allowance: u64,
 ) -> Placed
     requires rises { ⌜ Rises 0 (now aux) ⌝ }
     requires weighs { ⌜ Weighs 0 (now aux) ⌝ }
@@ -76,7 +79,7 @@ pub(crate) fn place_rows(
     requires inside { ⌜ (0 < length (now aux)) × (length (now aux) ≤ maxWords) × (length (now aux) + owner ≤ 2 ^ 16) × (length (now h) ≤ maxRows) × (length (now g) ≤ maxCells) ⌝ }
     requires taken { ⌜ Taken (now g) (now taken) ⌝ }
     requires rows { ⌜ All (λ c. c .row < length (now h)) (caresIn (now aux)) ⌝ }
-    ensures { λ r. ⌜ left r (now (h .exit)) (now (g .exit)) ≡ settled (caresOf owner (now (aux .entry))) (length (now (h .entry))) (now (g .entry)) ⌝ }
+    ensures { λ r. ⌜ left r (now (h .exit)) (now (g .exit)) ≡ settled allowance (caresOf owner (now (aux .entry))) (length (now (h .entry))) (now (g .entry)) ⌝ }
 {
     let mut tries = 0;
     let mut level = (aux.len() - 1) as u64;
@@ -92,11 +95,24 @@ pub(crate) fn place_rows(
                 let fit = place_row(aux, h, g, taken, row, first, owner);
                 match fit {
                     Fit::At(d) => {
-                        tries += d as u64 + 1;
+                        let more = tries + (d as u64 + 1);
+                        if allowance < more {
+                            undo(aux, h, g);
+                            return Placed {
+                                end: End::Over(row),
+                                tries: 0,
+                            };
+                        }
+                        tries = more;
                     }
                     Fit::None(tried, cells) => {
                         undo(aux, h, g);
-                        lists::clear16(h);
+                        if allowance < tries + tried as u64 {
+                            return Placed {
+                                end: End::Over(row),
+                                tries: 0,
+                            };
+                        }
                         return Placed {
                             end: End::NoFit(row, tried, cells),
                             tries,

@@ -2,6 +2,7 @@ pub mod Ladder
 pub mod Entries
 pub mod Checks
 pub mod Stuck
+pub mod Over
 pub mod Builds
 pub mod Formed
 pub mod Calls

@@ -31,17 +31,17 @@ use Rattle.build.proofs.Holding.Holds.{chosen-holds, given-holds, chosen-width,
 -- ---- lookup and recovery are exact
 
 pub chosen-demand-2 : Demand2Chosen buildChosen lookupOf recoverOf
-chosen-demand-2 n degree cells vs t =
+chosen-demand-2 n degree cells a vs t =
     record {
-      lookup-exact = λ z x l. holds-lookup _ _ vs (chosen-holds n degree cells vs t z) x (rw (chosen-width n degree cells vs t z) l);
-      recovery-exact = λ z i l. holds-recover _ _ vs (chosen-holds n degree cells vs t z) i l;
+      lookup-exact = λ z x l. holds-lookup _ _ vs (chosen-holds n degree cells a vs t z) x (rw (chosen-width n degree cells a vs t z) l);
+      recovery-exact = λ z i l. holds-recover _ _ vs (chosen-holds n degree cells a vs t z) i l;
     }
 
 pub given-demand-2 : Demand2Given buildGiven lookupOf recoverOf
-given-demand-2 n variables p n1 cells vs t places =
+given-demand-2 n variables p n1 cells a vs t places =
     record {
-      lookup-exact = λ z x l. holds-lookup _ _ vs (given-holds n variables p n1 cells vs t places z) x (rw (given-width n variables p n1 cells vs t z) l);
-      recovery-exact = λ z i l. holds-recover _ _ vs (given-holds n variables p n1 cells vs t places z) i l;
+      lookup-exact = λ z x l. holds-lookup _ _ vs (given-holds n variables p n1 cells a vs t places z) x (rw (given-width n variables p n1 cells a vs t z) l);
+      recovery-exact = λ z i l. holds-recover _ _ vs (given-holds n variables p n1 cells a vs t places z) i l;
     }
 
 -- ---- refuted of three wrong ones, by S with L = 7: chosen with degree 2, and given the same three variables
@@ -51,11 +51,11 @@ abbrev pub takenOfS : List Variable
 takenOfS = given (One 2 ∷ One 3 ∷ Two 4 5 ∷ [])
 
 -- rows 1, 2 and 3 are shifted
-pub S-shifted : buildChosen 6 2 7 S (nines 4 7 8) .tables .h ≡ 0 ∷ 2 ∷ 4 ∷ 5 ∷ []
+pub S-shifted : buildChosen 6 2 7 15 S (nines 4 7 8) .tables .h ≡ 0 ∷ 2 ∷ 4 ∷ 5 ∷ []
 unfolding buildChosen
 S-shifted = refl
 
-pub S-given-shifted : buildGiven 6 takenOfS 3 2 7 S (nines 4 7 8) .tables .h ≡ 0 ∷ 2 ∷ 4 ∷ 5 ∷ []
+pub S-given-shifted : buildGiven 6 takenOfS 3 2 7 15 S (nines 4 7 8) .tables .h ≡ 0 ∷ 2 ∷ 4 ∷ 5 ∷ []
 unfolding buildGiven
 S-given-shifted = refl
 
@@ -67,13 +67,13 @@ one-index reply a b p q = sym (ap (λ (f : Found). f .index) p) ∙ ap (λ (f : 
 pub constant-reply-fails : (reply : Found) (recovery : Recovery) → Demand2Chosen buildChosen (λ u t x. reply) recovery → ⊥
 unfolding buildChosen firstOf
 constant-reply-fails reply recovery d =
-    let e = d 6 2 7 S (nines 4 7 8) in
+    let e = d 6 2 7 15 S (nines 4 7 8) in
     omega (arith, one-index reply 2 0 (e .lookup-exact refl 18 (omega arith)) (e .lookup-exact refl 6 (omega arith)))
 
 pub constant-reply-given-fails : (reply : Found) (recovery : Recovery) → Demand2Given buildGiven (λ u t x. reply) recovery → ⊥
 unfolding buildGiven firstOf
 constant-reply-given-fails reply recovery d =
-    let e = d 6 takenOfS 3 2 7 S (nines 4 7 8) refl in
+    let e = d 6 takenOfS 3 2 7 15 S (nines 4 7 8) refl in
     omega (arith, one-index reply 2 0 (e .lookup-exact refl 18 (omega arith)) (e .lookup-exact refl 6 (omega arith)))
 
 -- tables as lent, all zero
@@ -109,24 +109,24 @@ nothing-written o e hit =
     omega (arith, ap (λ (f : Found). f .index) hit)
 
 -- a build that refuses as ours does and writes nothing, whatever its record
-pub writes-nothing-fails : (build : ChosenBuild) → ((n degree cells : ℕ) (vs : List ℕ) (t : Tables) → build n degree cells vs t .tables ≡ t)
-    → ((n degree cells : ℕ) (vs : List ℕ) (t : Tables) → build n degree cells vs t .built .refusal ≡ buildChosen n degree cells vs t .built .refusal)
+pub writes-nothing-fails : (build : ChosenBuild) → ((n degree cells a : ℕ) (vs : List ℕ) (t : Tables) → build n degree cells a vs t .tables ≡ t)
+    → ((n degree cells a : ℕ) (vs : List ℕ) (t : Tables) → build n degree cells a vs t .built .refusal ≡ buildChosen n degree cells a vs t .built .refusal)
     → Demand2Chosen build lookupOf recoverOf → ⊥
 unfolding buildChosen firstOf
 writes-nothing-fails build nothing as-ours d =
     let t : Tables = zeros 4 7 8 in
-    nothing-written (build 6 2 7 S t) (nothing 6 2 7 S t) (d 6 2 7 S t .lookup-exact (as-ours 6 2 7 S t) 18 (omega arith))
+    nothing-written (build 6 2 7 15 S t) (nothing 6 2 7 15 S t) (d 6 2 7 15 S t .lookup-exact (as-ours 6 2 7 15 S t) 18 (omega arith))
 
 pub writes-nothing-given-fails : (build : GivenBuild)
-    → ((n : ℕ) (variables : List Variable) (p n1 cells : ℕ) (vs : List ℕ) (t : Tables) → length variables ≡ maxVariables
-    → build n variables p n1 cells vs t .tables ≡ t)
-    → ((n : ℕ) (variables : List Variable) (p n1 cells : ℕ) (vs : List ℕ) (t : Tables) → length variables ≡ maxVariables
-    → build n variables p n1 cells vs t .built .refusal ≡ buildGiven n variables p n1 cells vs t .built .refusal)
+    → ((n : ℕ) (variables : List Variable) (p n1 cells a : ℕ) (vs : List ℕ) (t : Tables) → length variables ≡ maxVariables
+    → build n variables p n1 cells a vs t .tables ≡ t)
+    → ((n : ℕ) (variables : List Variable) (p n1 cells a : ℕ) (vs : List ℕ) (t : Tables) → length variables ≡ maxVariables
+    → build n variables p n1 cells a vs t .built .refusal ≡ buildGiven n variables p n1 cells a vs t .built .refusal)
     → Demand2Given build lookupOf recoverOf → ⊥
 unfolding buildGiven firstOf
 writes-nothing-given-fails build nothing as-ours d =
     let t : Tables = zeros 4 7 8 in
-    nothing-written (build 6 takenOfS 3 2 7 S t) (nothing 6 takenOfS 3 2 7 S t refl) (d 6 takenOfS 3 2 7 S t refl .lookup-exact (as-ours 6 takenOfS 3 2 7 S t refl) 18 (omega arith))
+    nothing-written (build 6 takenOfS 3 2 7 15 S t) (nothing 6 takenOfS 3 2 7 15 S t refl) (d 6 takenOfS 3 2 7 15 S t refl .lookup-exact (as-ours 6 takenOfS 3 2 7 15 S t refl) 18 (omega arith))
 
 -- the tables with the first row placed alone
 abbrev pub oneRow : ℕ → ℕ → List Kind → ℕ → List ℕ → Tables → Tables
@@ -135,19 +135,19 @@ oneRow n n1 ks cells vs t =
 
 -- our builds, but for the tables
 abbrev pub firstRowOnly : ChosenBuild
-firstRowOnly n degree cells vs t =
+firstRowOnly n degree cells a vs t =
     let ks = chosenKinds n degree vs in
-    record { built = buildChosen n degree cells vs t .built; tables = oneRow n (rowsShare (length ks)) ks cells vs t }
+    record { built = buildChosen n degree cells a vs t .built; tables = oneRow n (rowsShare (length ks)) ks cells vs t }
 
 abbrev pub firstRowOnlyGiven : GivenBuild
-firstRowOnlyGiven n variables p n1 cells vs t =
-    record { built = buildGiven n variables p n1 cells vs t .built; tables = oneRow n n1 (kindsOf (take p variables)) cells vs t }
+firstRowOnlyGiven n variables p n1 cells a vs t =
+    record { built = buildGiven n variables p n1 cells a vs t .built; tables = oneRow n n1 (kindsOf (take p variables)) cells vs t }
 
 -- they do not find vector 2, 18
 pub first-row-only-fails : Demand2Chosen firstRowOnly lookupOf recoverOf → ⊥
 unfolding buildChosen lookupOf firstOf caresFrom placeIn
-first-row-only-fails d = omega (arith, ap (λ (f : Found). f .index) (d 6 2 7 S (nines 4 7 8) .lookup-exact refl 18 (omega arith)))
+first-row-only-fails d = omega (arith, ap (λ (f : Found). f .index) (d 6 2 7 15 S (nines 4 7 8) .lookup-exact refl 18 (omega arith)))
 
 pub first-row-only-given-fails : Demand2Given firstRowOnlyGiven lookupOf recoverOf → ⊥
 unfolding buildGiven lookupOf firstOf caresFrom placeIn
-first-row-only-given-fails d = omega (arith, ap (λ (f : Found). f .index) (d 6 takenOfS 3 2 7 S (nines 4 7 8) refl .lookup-exact refl 18 (omega arith)))
+first-row-only-given-fails d = omega (arith, ap (λ (f : Found). f .index) (d 6 takenOfS 3 2 7 15 S (nines 4 7 8) refl .lookup-exact refl 18 (omega arith)))

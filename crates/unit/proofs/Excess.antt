@@ -26,21 +26,21 @@ apart-few ks vs e =
     (all-map (λ x. x < 2 ^ length ks) (numberOf ks) vs (at-all (λ v. numberOf ks v < 2 ^ length ks) vs 0 (λ i h. number-lt ks _)))
     e)
 
-outcome-excess : (r : Refusal) (n n1 : ℕ) (second : Refusal) (ks : List Kind) (cells : ℕ) (vs : List ℕ) (t : Tables)
-    → (r .number ≡ 0 → Passed n n1 second ks cells vs t) → NotNegative (outcome r n n1 ks cells vs t)
+outcome-excess : (r : Refusal) (n n1 : ℕ) (second : Refusal) (ks : List Kind) (cells a : ℕ) (vs : List ℕ) (t : Tables)
+    → (r .number ≡ 0 → Passed n n1 second ks cells vs t) → NotNegative (outcome r n n1 ks cells a vs t)
 unfolding recordOf
-outcome-excess r n n1 second ks cells vs t pass z =
-    let a = outcome-accepted n n1 ks cells vs t r z in
-    rw (a .is) (excess-not-negative (length ks) (length vs) (apart-few ks vs (pass (a .passed) .apart)))
+outcome-excess r n n1 second ks cells a vs t pass z =
+    let e = outcome-accepted n n1 ks cells a vs t r z in
+    rw (e .is) (excess-not-negative (length ks) (length vs) (apart-few ks vs (pass (e .passed) .apart)))
 
 pub chosen-excess : ExcessChosen buildChosen
 unfolding buildChosen
-chosen-excess n degree cells vs t =
-    outcome-excess (chosenRefusal n degree (chosenKinds n degree vs) cells vs t) n (rowsShare (length (chosenKinds n degree vs))) _ (chosenKinds n degree vs) cells vs t
+chosen-excess n degree cells a vs t =
+    outcome-excess (chosenRefusal n degree (chosenKinds n degree vs) cells vs t) n (rowsShare (length (chosenKinds n degree vs))) _ (chosenKinds n degree vs) cells a vs t
     (chosen-passed n degree cells vs t)
 
 pub given-excess : ExcessGiven buildGiven
 unfolding buildGiven
-given-excess n variables p n1 cells vs t slots =
-    outcome-excess (givenRefusal n p n1 (kindsOf (take p variables)) cells vs t) n n1 _ (kindsOf (take p variables)) cells vs t
+given-excess n variables p n1 cells a vs t slots =
+    outcome-excess (givenRefusal n p n1 (kindsOf (take p variables)) cells vs t) n n1 _ (kindsOf (take p variables)) cells a vs t
     (given-passed n variables p n1 cells vs t slots)

@@ -156,19 +156,41 @@ StuckAfter cs rows g order (t ∷ ts) r =
 abbrev pub Stuck : ℕ → List Kind → ℕ → List ℕ → ℕ → Type 0
 Stuck n1 ks cells vs r = (ts : List Turn) × StuckAfter (caresFrom 1 n1 ks vs) (2 ^ n1) (replicate cells 0) [] ts r
 
-abbrev pub lastCauses : ℕ → List Kind → ℕ → List ℕ → Tables → List Cause
-lastCauses n1 ks cells vs t = cause 12 (FewRows n1 t) ∷ record { number = 13; at = Stuck n1 ks cells vs } ∷ []
+-- ---- the cause of 41
 
--- ---- the causes of the two builds, by rising number
+-- SCOPE 7.8: d is tried for the vectors of a row: they fit at none below it, and each has a cell below L
+abbrev pub Tried : List ℕ → List Care → ℕ → Type 0
+Tried g m d = ((e : ℕ) → e < d → Blocked g m e) × ((c : Care) → In c m → cellOf c d < length g)
+
+-- the turns so far, each with no more tries than are left; then the row r is next, and after as many tries as are left one more is made for it
+-- left: the tries that are left; g: the cells; order: the rows placed before
+abbrev pub OverAfter : List Care → ℕ → ℕ → List ℕ → List ℕ → List Turn → ℕ → Type 0
+OverAfter cs rows left g order [] r = InTurn cs rows order r × Tried g (inRow r cs) left
+OverAfter cs rows left g order (t ∷ ts) r =
+    InTurn cs rows order (t .row)
+    × (Fits g (inRow (t .row) cs) (t .at) × ((d : ℕ) → d < t .at → Blocked g (inRow (t .row) cs) d))
+    × (suc (t .at) ≤ left)
+    × OverAfter cs rows (left - suc (t .at)) (put g (t .at) (inRow (t .row) cs)) (t .row ∷ order) ts r
+
+-- SCOPE 11.1, No. 41: from L empty cells, with no row placed and all of the allowance left, the turns come to such a row
+abbrev pub Over : ℕ → List Kind → ℕ → ℕ → List ℕ → ℕ → Type 0
+Over n1 ks cells allowance vs r = (ts : List Turn) × OverAfter (caresFrom 1 n1 ks vs) (2 ^ n1) allowance (replicate cells 0) [] ts r
+
+-- SCOPE 11.2: 41 comes after 12
+abbrev pub lastCauses : ℕ → List Kind → ℕ → ℕ → List ℕ → Tables → List Cause
+lastCauses n1 ks cells allowance vs t =
+    cause 12 (FewRows n1 t) ∷ record { number = 41; at = Over n1 ks cells allowance vs } ∷ record { number = 13; at = Stuck n1 ks cells vs } ∷ []
+
+-- ---- the causes of the two builds, in the order of checking
 
 -- ks: the variables that the rule takes
-abbrev pub chosenCauses : ℕ → ℕ → List Kind → ℕ → List ℕ → Tables → List Cause
-chosenCauses n degree ks cells vs t =
-    listCauses n (WrongDegree degree) cells vs t ++ (cause 11 (PairLeft ks vs) ∷ lastCauses (rowsShare (length ks)) ks cells vs t)
+abbrev pub chosenCauses : ℕ → ℕ → List Kind → ℕ → ℕ → List ℕ → Tables → List Cause
+chosenCauses n degree ks cells allowance vs t =
+    listCauses n (WrongDegree degree) cells vs t ++ (cause 11 (PairLeft ks vs) ∷ lastCauses (rowsShare (length ks)) ks cells allowance vs t)
 
 -- ks: the first p of the caller's variables
-abbrev pub givenCauses : ℕ → ℕ → ℕ → List Kind → ℕ → List ℕ → Tables → List Cause
-givenCauses n p n1 ks cells vs t = listCauses n (TooMany p n1) cells vs t ++ (variableCauses n ks vs ++ lastCauses n1 ks cells vs t)
+abbrev pub givenCauses : ℕ → ℕ → ℕ → List Kind → ℕ → ℕ → List ℕ → Tables → List Cause
+givenCauses n p n1 ks cells allowance vs t = listCauses n (TooMany p n1) cells vs t ++ (variableCauses n ks vs ++ lastCauses n1 ks cells allowance vs t)
 
 -- ---- what a refused build leaves
 
@@ -180,8 +202,8 @@ pub record Leaves (n1 cells k : ℕ) (t : Tables) (o : Outcome) : Type 0 where
   pub none-needed : (o .built .refusal ≡ 13 → ⊥) → o .built .needed ≡ 0
   -- SCOPE 11.5: 1 to 12 have written no word
   pub untouched : 0 < o .built .refusal → o .built .refusal < 13 → o .tables ≡ t
-  -- SCOPE 11.6: 13 leaves zeros in the words of the unit, and no other word altered
-  pub zeros : o .built .refusal ≡ 13 → o .tables ≡ zeroed n1 cells k t
+  -- SCOPE 11.6: 13 and 41 leave zeros in the words of the unit, and no other word altered
+  pub zeros : 13 ≤ o .built .refusal → o .tables ≡ zeroed n1 cells k t
 
 -- an outcome, with the causes of the call
 pub record Demand1 (causes : List Cause) (n1 cells k : ℕ) (t : Tables) (o : Outcome) : Type 0 where
@@ -251,13 +273,13 @@ pub record Answered (causes : List Cause) (number place result : ℕ) : Type 0 w
 
 abbrev pub Demand1Chosen : ChosenBuild → Type 0
 Demand1Chosen build =
-    (n degree cells : ℕ) (vs : List ℕ) (t : Tables)
-    → Demand1 (chosenCauses n degree (chosenKinds n degree vs) cells vs t) (rowsShare (length (chosenKinds n degree vs))) cells (length vs) t (build n degree cells vs t)
+    (n degree cells allowance : ℕ) (vs : List ℕ) (t : Tables)
+    → Demand1 (chosenCauses n degree (chosenKinds n degree vs) cells allowance vs t) (rowsShare (length (chosenKinds n degree vs))) cells (length vs) t (build n degree cells allowance vs t)
 
 abbrev pub Demand1Given : GivenBuild → Type 0
 Demand1Given build =
-    (n : ℕ) (variables : List Variable) (p n1 cells : ℕ) (vs : List ℕ) (t : Tables)
-    → Demand1 (givenCauses n p n1 (kindsOf (take p variables)) cells vs t) n1 cells (length vs) t (build n variables p n1 cells vs t)
+    (n : ℕ) (variables : List Variable) (p n1 cells allowance : ℕ) (vs : List ℕ) (t : Tables)
+    → Demand1 (givenCauses n p n1 (kindsOf (take p variables)) cells allowance vs t) n1 cells (length vs) t (build n variables p n1 cells allowance vs t)
 
 -- neither is lent a table to write: their results have none
 abbrev pub Demand1Lookup : Lookup → Type 0

@@ -14,13 +14,13 @@ use Rattle.lookup.specs.Lookup.{found}
 use Rattle.recover.specs.Recover.{recovered}
 use Rattle.record.specs.Holds.{indexOf}
 
--- variables chosen by rule: n, degree, L, the list and the tables
+-- variables chosen by rule: n, degree, L, the allowance, the list and the tables
 abbrev pub ChosenBuild : Type 0
-ChosenBuild = ℕ → ℕ → ℕ → List ℕ → Tables → Outcome
+ChosenBuild = ℕ → ℕ → ℕ → ℕ → List ℕ → Tables → Outcome
 
--- variables given by the caller: n, the variables, p, n1, L, the list and the tables
+-- variables given by the caller: n, the variables, p, n1, L, the allowance, the list and the tables
 abbrev pub GivenBuild : Type 0
-GivenBuild = ℕ → List Variable → ℕ → ℕ → ℕ → List ℕ → Tables → Outcome
+GivenBuild = ℕ → List Variable → ℕ → ℕ → ℕ → ℕ → List ℕ → Tables → Outcome
 
 -- record, tables and key
 abbrev pub Lookup : Type 0
@@ -39,10 +39,10 @@ pub record Demand2 (lookup : Lookup) (recovery : Recovery) (n : ℕ) (vs : List 
 
 abbrev pub Demand2Chosen : ChosenBuild → Lookup → Recovery → Type 0
 Demand2Chosen build lookup recovery =
-    (n degree cells : ℕ) (vs : List ℕ) (t : Tables) → Demand2 lookup recovery n vs (build n degree cells vs t)
+    (n degree cells allowance : ℕ) (vs : List ℕ) (t : Tables) → Demand2 lookup recovery n vs (build n degree cells allowance vs t)
 
 -- the caller's variables stand in 24 slots
 abbrev pub Demand2Given : GivenBuild → Lookup → Recovery → Type 0
 Demand2Given build lookup recovery =
-    (n : ℕ) (variables : List Variable) (p n1 cells : ℕ) (vs : List ℕ) (t : Tables) → length variables ≡ maxVariables
-    → Demand2 lookup recovery n vs (build n variables p n1 cells vs t)
+    (n : ℕ) (variables : List Variable) (p n1 cells allowance : ℕ) (vs : List ℕ) (t : Tables) → length variables ≡ maxVariables
+    → Demand2 lookup recovery n vs (build n variables p n1 cells allowance vs t)

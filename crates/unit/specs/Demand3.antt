@@ -1,5 +1,5 @@
 -- Demand 3 (SCOPE 16.3 to 16.5), a predicate over any build: the displacements and the tries of an accepted list, and when no list is refused for lack of fit. It is said of builds: a unit to which a vector was added need not meet it (SCOPE 22.6).
-use Prim.Native.Nat.{ℕ, _+_, _-_, _^_, _≤_, _<_}
+use Prim.Native.Nat.{ℕ, suc, _+_, _-_, _*_, _^_, _≤_, _<_}
 use mathlib.Core.Path.{_≡_}
 use mathlib.Core.Bool.{true, false}
 use mathlib.Core.List.{List}
@@ -40,22 +40,23 @@ abbrev pub displacements : ℕ → Outcome → List ℕ
 displacements n1 o = take (2 ^ n1) (o .tables .h)
 
 -- an outcome, where r is what refusals 1 to 12 say of the call
-pub record Demand3 (r : Refusal) (n1 : ℕ) (ks : List Kind) (cells : ℕ) (vs : List ℕ) (o : Outcome) : Type 0 where
+pub record Demand3 (r : Refusal) (n1 : ℕ) (ks : List Kind) (cells allowance : ℕ) (vs : List ℕ) (o : Outcome) : Type 0 where
   pub shifted : o .built .refusal ≡ 0 → Shifted (caresFrom 1 n1 ks vs) (2 ^ n1) cells (displacements n1 o) (o .built .unit .tries)
   -- SCOPE 16.4: in a list that is spread out no displacement is above k
   pub none-exceeds : o .built .refusal ≡ 0 → Spread (length vs) (caresFrom 1 n1 ks vs) → (i : ℕ) → getD (displacements n1 o) i 0 ≤ length vs
-  -- SCOPE 16.4: and with k and the number of columns, or more, as cells such a list is accepted once it is past 1 to 12
-  pub always-fits : r .number ≡ 0 → Spread (length vs) (caresFrom 1 n1 ks vs) → length vs + 2 ^ (length ks - n1) ≤ cells → o .built .refusal ≡ 0
+  -- SCOPE 16.4: and with k and the number of columns, or more, as cells, and k(k + 1) tries allowed, such a list is accepted once it is past 1 to 12
+  pub always-fits : r .number ≡ 0 → Spread (length vs) (caresFrom 1 n1 ks vs) → length vs + 2 ^ (length ks - n1) ≤ cells → length vs * suc (length vs) ≤ allowance
+      → o .built .refusal ≡ 0
 
 -- ---- over any build
 
 abbrev pub Demand3Chosen : ChosenBuild → Type 0
 Demand3Chosen build =
-    (n degree cells : ℕ) (vs : List ℕ) (t : Tables)
-    → Demand3 (chosenRefusal n degree (chosenKinds n degree vs) cells vs t) (rowsShare (length (chosenKinds n degree vs))) (chosenKinds n degree vs) cells vs (build n degree cells vs t)
+    (n degree cells allowance : ℕ) (vs : List ℕ) (t : Tables)
+    → Demand3 (chosenRefusal n degree (chosenKinds n degree vs) cells vs t) (rowsShare (length (chosenKinds n degree vs))) (chosenKinds n degree vs) cells allowance vs (build n degree cells allowance vs t)
 
 -- the caller's variables stand in 24 slots
 abbrev pub Demand3Given : GivenBuild → Type 0
 Demand3Given build =
-    (n : ℕ) (variables : List Variable) (p n1 cells : ℕ) (vs : List ℕ) (t : Tables) → length variables ≡ maxVariables
-    → Demand3 (givenRefusal n p n1 (kindsOf (take p variables)) cells vs t) n1 (kindsOf (take p variables)) cells vs (build n variables p n1 cells vs t)
+    (n : ℕ) (variables : List Variable) (p n1 cells allowance : ℕ) (vs : List ℕ) (t : Tables) → length variables ≡ maxVariables
+    → Demand3 (givenRefusal n p n1 (kindsOf (take p variables)) cells vs t) n1 (kindsOf (take p variables)) cells allowance vs (build n variables p n1 cells allowance vs t)

@@ -16,10 +16,10 @@ abbrev pub NotNegative : Outcome → Type 0
 NotNegative o = o .built .refusal ≡ 0 → pos 0 ≤ℤ o .built .unit .excess
 
 abbrev pub ExcessChosen : ChosenBuild → Type 0
-ExcessChosen build = (n degree cells : ℕ) (vs : List ℕ) (t : Tables) → NotNegative (build n degree cells vs t)
+ExcessChosen build = (n degree cells allowance : ℕ) (vs : List ℕ) (t : Tables) → NotNegative (build n degree cells allowance vs t)
 
 -- the caller's variables stand in 24 slots
 abbrev pub ExcessGiven : GivenBuild → Type 0
 ExcessGiven build =
-    (n : ℕ) (variables : List Variable) (p n1 cells : ℕ) (vs : List ℕ) (t : Tables) → length variables ≡ maxVariables
-    → NotNegative (build n variables p n1 cells vs t)
+    (n : ℕ) (variables : List Variable) (p n1 cells allowance : ℕ) (vs : List ℕ) (t : Tables) → length variables ≡ maxVariables
+    → NotNegative (build n variables p n1 cells allowance vs t)

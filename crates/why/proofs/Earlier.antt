@@ -15,7 +15,7 @@ use Rattle.record.specs.Tables.{Tables}
 use Rattle.build.specs.Build.{Outcome, chosenKinds, buildChosen}
 use Rattle.unit.specs.Demand1.{Gives, First, Same, chosenCauses}
 use Rattle.unit.proofs.Demand1.Builds.{chosen-demand-1}
-use Rattle.answer.specs.Make.{roomy, makeOf}
+use Rattle.answer.specs.Make.{roomy, programAllowance, makeOf}
 use Rattle.why.specs.Why.{vectorAt, firstEqual}
 use Rattle.why.specs.Facts.{Alike, NamesEarlier}
 
@@ -83,8 +83,8 @@ later : {A B C : Type 0} → A ⊎ (B × C) → (A → ⊥) → C
 later (inl a) n = absurd (n a)
 later (inr p) n = p .1
 
-seventh : (n degree cells : ℕ) (vs : List ℕ) (t : Tables) (place : ℕ) → Gives (chosenCauses n degree (chosenKinds n degree vs) cells vs t) 7 place → First (length vs) (Same vs) place
-seventh n degree cells vs t place g =
+seventh : (n degree cells allowance : ℕ) (vs : List ℕ) (t : Tables) (place : ℕ) → Gives (chosenCauses n degree (chosenKinds n degree vs) cells allowance vs t) 7 place → First (length vs) (Same vs) place
+seventh n degree cells allowance vs t place g =
     let g1 = later g (λ p. omega (arith, p .0)) in
     let g2 = later g1 (λ p. omega (arith, p .0)) in
     let g3 = later g2 (λ p. omega (arith, p .0)) in
@@ -96,16 +96,17 @@ seventh n degree cells vs t place g =
     let g8 = later (p .1) (λ q. omega (arith, q .0)) in
     let g9 = later g8 (λ q. omega (arith, q .0)) in
     let g10 = later g9 (λ q. omega (arith, q .0)) in
-    absurd (omega (arith, g10 .0)))
+    let g11 = later g10 (λ q. omega (arith, q .0)) in
+    absurd (omega (arith, g11 .0)))
     g6
 
-of-build : (n degree cells : ℕ) (vs : List ℕ) (t : Tables) (o : Outcome) → o ≡ buildChosen n degree cells vs t → o .built .refusal ≡ 7 → Alike vs (firstEqual (vectorAt vs (o .built .place)) vs) (o .built .place)
-of-build n degree cells vs t o b e =
-    let g = chosen-demand-1 n degree cells vs t .refusal in
-    alike vs (o .built .place) (seventh n degree cells vs t (o .built .place) (rw e at (rw (← b) at g)))
+of-build : (n degree cells allowance : ℕ) (vs : List ℕ) (t : Tables) (o : Outcome) → o ≡ buildChosen n degree cells allowance vs t → o .built .refusal ≡ 7 → Alike vs (firstEqual (vectorAt vs (o .built .place)) vs) (o .built .place)
+of-build n degree cells allowance vs t o b e =
+    let g = chosen-demand-1 n degree cells allowance vs t .refusal in
+    alike vs (o .built .place) (seventh n degree cells allowance vs t (o .built .place) (rw e at (rw (← b) at g)))
 
 pub names-earlier : NamesEarlier
 unfolding makeOf
 names-earlier text y e =
     let i = inputOf text maxListed in
-    of-build (i .n) (i .degree) (i .cells) (drop 3 (numbersIn text)) roomy (makeOf text roomy .outcome) (rw (y, makeOf)) e
+    of-build (i .n) (i .degree) (i .cells) programAllowance (drop 3 (numbersIn text)) roomy (makeOf text roomy .outcome) (rw (y, makeOf)) e

@@ -19,7 +19,7 @@ use Rattle.input.specs.Decimal.{maxNumber, valueOf, goodField}
 use Rattle.input.specs.Input.{maxListed, body, goodText, numbersIn}
 use Rattle.print.specs.Sentence.{sentence}
 use Rattle.print.proofs.Sentences.{widest, sentence-low}
-use Rattle.answer.specs.Make.{roomy, makeOf}
+use Rattle.answer.specs.Make.{roomy, programAllowance, makeOf}
 use Rattle.answer.proofs.Makes.{of-builds}
 use Rattle.answer.proofs.Fits.Refused.{chosen-number}
 use Rattle.fault.specs.declared.Fault.{Fault}
@@ -107,7 +107,7 @@ why-fits text = go (goodText text maxListed) refl
         let a : All (λ x. x ≤ maxNumber) ns = numbers-all text (g .numbers) in
         let m = make-good text q in
         let r = of-builds (λ (o : Outcome). o .built .refusal ≤ 13) chosen-number text roomy m in
-        let p = of-builds (λ (o : Outcome). o .built .place < 2 ^ 12) chosen-place text roomy m in
+        let p = of-builds (λ (o : Outcome). o .built .place < 2 ^ 12) (λ n degree cells vs t. chosen-place n degree cells programAllowance vs t) text roomy m in
         omega (
           arith,
           ap length (why-good text q),

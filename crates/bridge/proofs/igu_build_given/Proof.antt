@@ -17,10 +17,10 @@ variables-requires : tie.Need-variables-requires
 variables-requires c κs = (search needs, counted-all-range (given (c .before .before .before .before .before .before .before)) _ (c .before .all-counted .ensures))
 
 built-answer-requires : tie.Need-built-answer-requires
-built-answer-requires c κs = answer-fits _ _ _ _ _ (c .before .before .before .before .before .before .before .before .build-given .ensures) (given-place _ _ _ _ _ _ _ (search needs)) (given-needed _ _ _ _ _ _ _ (search needs))
+built-answer-requires c κs = answer-fits _ _ _ _ _ (c .before .before .before .before .before .before .before .before .build-given .ensures) (given-place _ _ _ _ _ _ _ _ (search needs)) (given-needed _ _ _ _ _ _ _ _ (search needs))
 
 returns : tie.Need-returns
-returns c = left-is _ _ _ _ _ (c .before .before .before .before .before .before .before .before .before .build-given .ensures) _ _ (c .before .words .ensures) (c .built-answer .ensures) ∙ given-left _ _ _ _ _ _ _ _ (counted-all-variables (given (c .before .before .before .before .before .before .before .before .before .before .before .before .before .before .before .before .before .before .before .before .before)) _ (c .before .before .before .before .before .before .before .before .before .before .before .before .before .before .before .all-counted .ensures) _ (c .before .before .before .before .before .before .before .before .before .before .before .before .before .variables .ensures))
+returns c = left-is _ _ _ _ _ (c .before .before .before .before .before .before .before .before .before .build-given .ensures) _ _ (c .before .words .ensures) (c .built-answer .ensures) ∙ given-left _ _ _ _ _ _ _ _ _ (counted-all-variables (given (c .before .before .before .before .before .before .before .before .before .before .before .before .before .before .before .before .before .before .before .before .before)) _ (c .before .before .before .before .before .before .before .before .before .before .before .before .before .before .before .all-counted .ensures) _ (c .before .before .before .before .before .before .before .before .before .before .before .before .before .variables .ensures))
 
 pub igu-build-given-spec : {M : Type 1} → statement M
 igu-build-given-spec =

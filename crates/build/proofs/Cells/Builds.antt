@@ -1,11 +1,10 @@
--- Builds with other numbers of cells: more cells refuse nothing that fewer accept, and `needed` is the least that places the row. Assumes nothing.
+-- Builds with other numbers of cells, and with an allowance of tries: more cells refuse nothing that fewer accept, and `needed` is the least that places the row. Assumes nothing.
 use Prim.Native.Nat.{ℕ, _+_, _^_, _<_}
-use native.Mathlib.Nat.{eq-zero-or-pos}
 use native.Mathlib.Omega.{arith}
 use mathlib.Core.Path.{_≡_, refl, sym, ap, _∙_}
 use mathlib.Core.Bool.{true, false, not, true≢false}
 use mathlib.Core.List.{List, [], _∷_, _++_, map}
-use mathlib.Core.Logic.{_⊎_, inl, inr, ⊎-elim}
+use mathlib.Core.Logic.{⊎-elim}
 use lib.Dec.{ltb}
 use lib.ListN.{length, take, drop}
 use lib.Seq.{take-at}
@@ -18,21 +17,20 @@ use Rattle.vectors.specs.declared.Kind.{Kind}
 use Rattle.vectors.specs.declared.Variable.{Variable}
 use Rattle.span.specs.Span.{firstDependent}
 use Rattle.choice.specs.Choice.{apart}
-use Rattle.rows.specs.Place.{Placing, place}
-use Rattle.rows.specs.Needed.{places}
-use Rattle.rows.specs.declared.End.{End}
-use Rattle.rows.specs.declared.End.the-variants as ends
-use Rattle.rows.specs.declared.End.the-variants.{NoFit, Unfit}
-use Rattle.rows.proofs.Placing.Wider.{least}
+use Rattle.rows.specs.Place.{Placing}
+use Rattle.rows.specs.declared.End.the-variants.{NoFit}
+use Rattle.rows.proofs.Placing.Allowed.{within-stuck}
+use Rattle.rows.proofs.Placing.Within.{within-placed, placed-within}
 use Rattle.record.specs.Record.{recordOf}
-use Rattle.record.specs.Tables.{Tables, over}
+use Rattle.record.specs.Tables as tables
+use Rattle.record.specs.Tables.{Tables}
 use Rattle.build.specs.declared.Refusal.{Refusal}
 use Rattle.build.specs.Refusals.{givenChecks, check2Chosen, check2Given, check11, check12}
 use Rattle.build.specs.Build.{rowsShare, Outcome, placingOf, outcome, chosenKinds, chosenRefusal, buildChosen, givenRefusal, buildGiven}
 use Rattle.build.specs.Cells.{Builds, chosenBuilds, givenBuilds, Room, withCells, Accepts, Enough, Wider, used, LeastCells}
-use Rattle.build.proofs.Refusing.Ladder.{pass, outcome-refused, outcome-passed}
+use Rattle.build.proofs.Refusing.Ladder.{pass}
 use Rattle.build.proofs.Holding.Passed.{Passed, chosen-passed, given-passed}
-use Rattle.build.proofs.Holding.Ends.{placing-cells, placing-ends, finish-all, finish-stuck, outcome-accepted}
+use Rattle.build.proofs.Holding.Ends.{placing-cells, Comes, early, whole, stuck, over, comes, outcome-accepted, accepted-outcome}
 use Rattle.build.proofs.Holding.Built.{care-held}
 use Rattle.build.proofs.Cells.Checks.{Early, if-early, at-early, list-early, list-room, some-cells}
 use Rattle.build.proofs.Cells.Placings.{placing-wider, placing-short, placing-within, placing-used}
@@ -45,7 +43,7 @@ record Ended13 (r : Refusal) (P : Placing) (o : Outcome) : Type 0 where
   tried : ℕ
   is : P .end ≡ NoFit (o .built .place) tried (o .built .needed)
 
-module _ (n n1 : ℕ) (ks : List Kind) (vs : List ℕ) (refusal : ℕ → Tables → Refusal) (early : (cells : ℕ) (t : Tables) → Early (refusal cells t))
+module _ (n n1 : ℕ) (ks : List Kind) (vs : List ℕ) (refusal : ℕ → Tables → Refusal) (first : (cells : ℕ) (t : Tables) → Early (refusal cells t))
     (room : (cells m : ℕ) (t : Tables) (g : List ℕ) → 0 < m → Room m g → refusal cells t .number ≡ 0 → refusal m (withCells t g) .number ≡ 0)
     (some : (cells : ℕ) (t : Tables) → refusal cells t .number ≡ 0 → 0 < cells) where
   abbrev B : Builds
@@ -53,73 +51,72 @@ module _ (n n1 : ℕ) (ks : List Kind) (vs : List ℕ) (refusal : ℕ → Tables
       record {
         refusal = refusal;
         placing = λ cells. placingOf n1 ks cells vs;
-        outcome = λ cells t. outcome (refusal cells t) n n1 ks cells vs t;
+        outcome = λ cells a t. outcome (refusal cells t) n n1 ks cells a vs t;
       }
 
-  ended-13 : (cells : ℕ) (t : Tables) → B .outcome cells t .built .refusal ≡ 13 → Ended13 (refusal cells t) (B .placing cells) (B .outcome cells t)
-  ended-13 cells t h = go (eq-zero-or-pos (refusal cells t .number)) (placingOf n1 ks cells vs .end) refl
+  ended-13 : (cells a : ℕ) (t : Tables) → B .outcome cells a t .built .refusal ≡ 13 → Ended13 (refusal cells t) (B .placing cells) (B .outcome cells a t)
+  ended-13 cells a t h = go (comes n n1 ks cells a vs t (refusal cells t))
     where
-      go : (refusal cells t .number ≡ 0) ⊎ (0 < refusal cells t .number) → (e : End) → placingOf n1 ks cells vs .end ≡ e
-          → Ended13 (refusal cells t) (B .placing cells) (B .outcome cells t)
-      go (inr l) e q =
-          absurd (omega (arith, ap (λ (o : Outcome). o .built .refusal) (outcome-refused (refusal cells t) n n1 ks cells vs t (λ z. omega arith)), early cells t))
-      go (inl z) ends.All q =
-          absurd (omega (arith, ap (λ (o : Outcome). o .built .refusal) (outcome-passed (refusal cells t) n n1 ks cells vs t z ∙ finish-all n n1 ks cells vs t q)))
-      go (inl z) (NoFit row tried needed) q =
-          rw (outcome-passed (refusal cells t) n n1 ks cells vs t z ∙ finish-stuck n n1 ks cells vs t row tried needed q)
-          (record { passed = z; tried = tried; is = q })
-      go (inl z) Unfit q = absurd (placing-ends n1 ks cells vs q)
+      number : Outcome → ℕ
+      number o = o .built .refusal
 
-  outcome-enough : (cells : ℕ) (t : Tables) → B .outcome cells t .built .refusal ≡ 13
-      → Enough B cells t (B .outcome cells t .built .place) (B .outcome cells t .built .needed)
-  outcome-enough cells t h =
-      let e = ended-13 cells t h in
+      go : Comes n n1 ks cells a vs t (refusal cells t) → Ended13 (refusal cells t) (B .placing cells) (B .outcome cells a t)
+      go (early l e) = absurd (omega (arith, ap number e, first cells t))
+      go (whole z q e) = absurd (omega (arith, ap number e))
+      go (stuck z row tried needed q e) = rw e (record { passed = z; tried = tried; is = within-stuck a (placingOf n1 ks cells vs) row tried needed q .is })
+      go (over z row q e) = absurd (omega (arith, ap number e))
+
+  outcome-enough : (cells a : ℕ) (t : Tables) → B .outcome cells a t .built .refusal ≡ 13
+      → Enough B cells t (B .outcome cells a t .built .place) (B .outcome cells a t .built .needed)
+  outcome-enough cells a t h =
+      let e = ended-13 cells a t h in
       let s = placing-short n1 ks vs cells _ (e .tried) _ (e .is) in
-      let a = s .above in
+      let up = s .above in
       record {
-        above = a;
-        enough = λ m g l r. (room cells m t g (omega arith) r (e .passed), s .enough m l);
+        above = up;
+        enough = λ m b g l r u. (room cells m t g (omega arith) r (e .passed), within-placed b _ _ _ (s .enough m l) u);
         earlier = s .earlier;
-        fewer = λ m t' l p. true≢false (sym (p .1) ∙ s .fewer m l);
-        refused = λ m t' l z. s .refused m l (outcome-accepted n n1 ks m vs t' (refusal m t') z .placed);
+        fewer = λ m b t' l p. true≢false (sym (placed-within b _ _ _ (p .1)) ∙ s .fewer m l);
+        refused = λ m b t' l z. s .refused m l (outcome-accepted n n1 ks m b vs t' (refusal m t') z .placed);
       }
 
-  outcome-wider : (cells : ℕ) (t : Tables) → Accepts B cells t → Wider B cells t
+  outcome-wider : (cells a : ℕ) (t : Tables) → Accepts B cells a t → Wider B cells a t
   unfolding recordOf
-  outcome-wider cells t h m g l r =
-      let a = outcome-accepted n n1 ks cells vs t (refusal cells t) h in
-      let w = placing-wider n1 ks vs cells m l (a .placed) in
-      let p = some cells t (a .passed) in
-      let z = room cells m t g (omega arith) r (a .passed) in
-      let o = outcome-passed (refusal m (withCells t g)) n n1 ks m vs (withCells t g) z ∙ finish-all n n1 ks m vs (withCells t g) (w .0) in
-      rw (a .is, o)
+  outcome-wider cells a t h m g l r =
+      let e = outcome-accepted n n1 ks cells a vs t (refusal cells t) h in
+      let w = placing-wider n1 ks vs cells m l (e .placed) in
+      let p = some cells t (e .passed) in
+      let z = room cells m t g (omega arith) r (e .passed) in
+      let o = accepted-outcome n n1 ks m a vs (withCells t g) (refusal m (withCells t g)) z (w .0) (omega (arith, w .1 .tries, e .within)) in
+      rw (e .is, o)
       (record {
         accepted = refl;
-        rows = ap (λ (x : List ℕ). over x (t .h)) (w .1 .rows);
+        rows = ap (λ (x : List ℕ). tables.over x (t .h)) (w .1 .rows);
         words = refl;
         tries = w .1 .tries;
       })
 
   -- accepted with so many cells: accepted with those up to the last that is taken, and with no fewer
-  outcome-least : (second : Refusal) (cells : ℕ) (t : Tables) → (refusal cells t .number ≡ 0 → Passed n n1 second ks cells vs t) → Accepts B cells t
-      → LeastCells B t (used (take cells (B .outcome cells t .tables .g)))
-  outcome-least second cells t pass h =
-      let a = outcome-accepted n n1 ks cells vs t (refusal cells t) h in
+  outcome-least : (second : Refusal) (cells a : ℕ) (t : Tables) → (refusal cells t .number ≡ 0 → Passed n n1 second ks cells vs t) → Accepts B cells a t
+      → LeastCells B a t (used (take cells (B .outcome cells a t .tables .g)))
+  outcome-least second cells a t pass h =
+      let e = outcome-accepted n n1 ks cells a vs t (refusal cells t) h in
       let G : List ℕ = placingOf n1 ks cells vs .state .g in
-      let f : take cells (over G (t .g)) ≡ G = take-at G (drop (length G) (t .g)) cells (placing-cells n1 ks cells vs) in
-      rw (a .is, f)
+      let f : take cells (tables.over G (t .g)) ≡ G = take-at G (drop (length G) (t .g)) cells (placing-cells n1 ks cells vs) in
+      rw (e .is, f)
       (record {
         enough = λ m g k l r.
             ⊎-elim
-            (λ q. outcome-wider cells t h m g q r .accepted)
+            (λ q. outcome-wider cells a t h m g q r .accepted)
             (λ q.
-            let e = placing-within n1 ks vs cells m (omega arith) (a .placed) (λ c i. care-held n n1 second ks cells vs t (pass (a .passed)) (a .placed) c i) l in
-            let z = room cells m t g k r (a .passed) in
-            ap (λ (o : Outcome). o .built .refusal) (outcome-passed (refusal m (withCells t g)) n n1 ks m vs (withCells t g) z ∙ finish-all n n1 ks m vs (withCells t g) e))
+            let w = placing-within n1 ks vs cells m (omega arith) (e .placed) (λ c i. care-held n n1 second ks cells vs t (pass (e .passed)) (e .placed) c i) l in
+            let z = room cells m t g k r (e .passed) in
+            let i = placing-wider n1 ks vs m cells (omega arith) w .1 .tries in
+            ap (λ (o : Outcome). o .built .refusal) (accepted-outcome n n1 ks m a vs (withCells t g) (refusal m (withCells t g)) z w (omega (arith, e .within))))
             (le-or-lt cells m);
-        fewer = λ m t' l z.
-            let b = outcome-accepted n n1 ks m vs t' (refusal m t') z in
-            omega (arith, placing-used n1 ks vs cells m (b .placed));
+        fewer = λ m b t' l z.
+            let o = outcome-accepted n n1 ks m b vs t' (refusal m t') z in
+            omega (arith, placing-used n1 ks vs cells m (o .placed));
       })
 
 -- ---- the builds
@@ -152,21 +149,21 @@ module _ (n degree : ℕ) (vs : List ℕ) where
   chosen-some cells t = some-cells n (check2Chosen degree) cells vs (length (t .g)) (length (t .aux)) (rest t)
 
   -- refused by 13: the row has its place with as many cells as are needed, and with no fewer
-  pub chosen-enough : (cells : ℕ) (t : Tables) → buildChosen n degree cells vs t .built .refusal ≡ 13
-      → Enough (chosenBuilds n degree vs) cells t (buildChosen n degree cells vs t .built .place) (buildChosen n degree cells vs t .built .needed)
+  pub chosen-enough : (cells a : ℕ) (t : Tables) → buildChosen n degree cells a vs t .built .refusal ≡ 13
+      → Enough (chosenBuilds n degree vs) cells t (buildChosen n degree cells a vs t .built .place) (buildChosen n degree cells a vs t .built .needed)
   unfolding buildChosen
-  chosen-enough cells t = outcome-enough n n1 ks vs r chosen-early chosen-room chosen-some cells t
+  chosen-enough cells a t = outcome-enough n n1 ks vs r chosen-early chosen-room chosen-some cells a t
 
   -- accepted: accepted with more cells, and the same but for G
-  pub chosen-wider : (cells : ℕ) (t : Tables) → buildChosen n degree cells vs t .built .refusal ≡ 0 → Wider (chosenBuilds n degree vs) cells t
+  pub chosen-wider : (cells a : ℕ) (t : Tables) → buildChosen n degree cells a vs t .built .refusal ≡ 0 → Wider (chosenBuilds n degree vs) cells a t
   unfolding buildChosen
-  chosen-wider cells t = outcome-wider n n1 ks vs r chosen-early chosen-room chosen-some cells t
+  chosen-wider cells a t = outcome-wider n n1 ks vs r chosen-early chosen-room chosen-some cells a t
 
   -- accepted: accepted with the cells up to the last that is taken, and with no fewer
-  pub chosen-least : (cells : ℕ) (t : Tables) → buildChosen n degree cells vs t .built .refusal ≡ 0
-      → LeastCells (chosenBuilds n degree vs) t (used (take cells (buildChosen n degree cells vs t .tables .g)))
+  pub chosen-least : (cells a : ℕ) (t : Tables) → buildChosen n degree cells a vs t .built .refusal ≡ 0
+      → LeastCells (chosenBuilds n degree vs) a t (used (take cells (buildChosen n degree cells a vs t .tables .g)))
   unfolding buildChosen
-  chosen-least cells t = outcome-least n n1 ks vs r chosen-early chosen-room chosen-some (check2Chosen degree) cells t (chosen-passed n degree cells vs t)
+  chosen-least cells a t = outcome-least n n1 ks vs r chosen-early chosen-room chosen-some (check2Chosen degree) cells a t (chosen-passed n degree cells vs t)
 
 module _ (n : ℕ) (variables : List Variable) (p n1 : ℕ) (vs : List ℕ) where
   abbrev gs : List Kind
@@ -178,7 +175,7 @@ module _ (n : ℕ) (variables : List Variable) (p n1 : ℕ) (vs : List ℕ) wher
   abbrev more : Tables → List Refusal
   more t = givenChecks n gs vs ++ (check12 n1 (t .h) ∷ [])
 
-  given-early : (cells : ℕ) (t : Tables) → Early (s cells t)
+  pub given-early : (cells : ℕ) (t : Tables) → Early (s cells t)
   unfolding givenRefusal
   given-early cells t =
       list-early n (check2Given p n1) cells vs (length (t .g)) (length (t .aux)) (more t) (if-early 2 (tooMany p n1) (omega arith)) (
@@ -195,17 +192,17 @@ module _ (n : ℕ) (variables : List Variable) (p n1 : ℕ) (vs : List ℕ) wher
   given-some cells t = some-cells n (check2Given p n1) cells vs (length (t .g)) (length (t .aux)) (more t)
 
   -- the same of the given build
-  pub given-enough : (cells : ℕ) (t : Tables) → buildGiven n variables p n1 cells vs t .built .refusal ≡ 13
-      → Enough (givenBuilds n variables p n1 vs) cells t (buildGiven n variables p n1 cells vs t .built .place) (buildGiven n variables p n1 cells vs t .built .needed)
+  pub given-enough : (cells a : ℕ) (t : Tables) → buildGiven n variables p n1 cells a vs t .built .refusal ≡ 13
+      → Enough (givenBuilds n variables p n1 vs) cells t (buildGiven n variables p n1 cells a vs t .built .place) (buildGiven n variables p n1 cells a vs t .built .needed)
   unfolding buildGiven
-  given-enough cells t = outcome-enough n n1 gs vs s given-early given-room given-some cells t
+  given-enough cells a t = outcome-enough n n1 gs vs s given-early given-room given-some cells a t
 
-  pub given-wider : (cells : ℕ) (t : Tables) → buildGiven n variables p n1 cells vs t .built .refusal ≡ 0 → Wider (givenBuilds n variables p n1 vs) cells t
+  pub given-wider : (cells a : ℕ) (t : Tables) → buildGiven n variables p n1 cells a vs t .built .refusal ≡ 0 → Wider (givenBuilds n variables p n1 vs) cells a t
   unfolding buildGiven
-  given-wider cells t = outcome-wider n n1 gs vs s given-early given-room given-some cells t
+  given-wider cells a t = outcome-wider n n1 gs vs s given-early given-room given-some cells a t
 
-  pub given-least : (cells : ℕ) (t : Tables) → length variables ≡ maxVariables → buildGiven n variables p n1 cells vs t .built .refusal ≡ 0
-      → LeastCells (givenBuilds n variables p n1 vs) t (used (take cells (buildGiven n variables p n1 cells vs t .tables .g)))
+  pub given-least : (cells a : ℕ) (t : Tables) → length variables ≡ maxVariables → buildGiven n variables p n1 cells a vs t .built .refusal ≡ 0
+      → LeastCells (givenBuilds n variables p n1 vs) a t (used (take cells (buildGiven n variables p n1 cells a vs t .tables .g)))
   unfolding buildGiven
-  given-least cells t places =
-      outcome-least n n1 gs vs s given-early given-room given-some (check2Given p n1) cells t (given-passed n variables p n1 cells vs t places)
+  given-least cells a t places =
+      outcome-least n n1 gs vs s given-early given-room given-some (check2Given p n1) cells a t (given-passed n variables p n1 cells vs t places)

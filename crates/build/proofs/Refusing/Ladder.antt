@@ -123,15 +123,15 @@ list-passed n second cells vs g aux h =
 
 -- ---- the outcome
 
-module _ (r : Refusal) (n n1 : ℕ) (ks : List Kind) (cells : ℕ) (vs : List ℕ) (t : Tables) where
-  pub outcome-refused : (r .number ≡ 0 → ⊥) → outcome r n n1 ks cells vs t ≡ refused r t
+module _ (r : Refusal) (n n1 : ℕ) (ks : List Kind) (cells a : ℕ) (vs : List ℕ) (t : Tables) where
+  pub outcome-refused : (r .number ≡ 0 → ⊥) → outcome r n n1 ks cells a vs t ≡ refused r t
   unfolding outcome
   outcome-refused h = go (r .number) h
     where
-      go : (m : ℕ) → (m ≡ 0 → ⊥) → elim m as (λ x. Outcome) [ zero ↦ finish n n1 ks cells vs t | suc p ↦ refused r t ] ≡ refused r t
+      go : (m : ℕ) → (m ≡ 0 → ⊥) → elim m as (λ x. Outcome) [ zero ↦ finish n n1 ks cells a vs t | suc p ↦ refused r t ] ≡ refused r t
       go zero h = absurd (h refl)
       go (suc m) h = refl
 
-  pub outcome-passed : r .number ≡ 0 → outcome r n n1 ks cells vs t ≡ finish n n1 ks cells vs t
+  pub outcome-passed : r .number ≡ 0 → outcome r n n1 ks cells a vs t ≡ finish n n1 ks cells a vs t
   unfolding outcome
   outcome-passed h = rw (h, outcome)

@@ -99,11 +99,11 @@ module _ (n1 : ℕ) (ks : List Kind) (rows-in : n1 ≤ length ks) (rows-few : n1
       astray-more (2 ^ n1) _ _ (q .2) (omega (arith, q .0, row-lt n1 ks v rows-in)) (places-found vs (a .1))
 
 -- the placing of these words is the placing of the vectors
-pub places-placed : (n1 : ℕ) (ks : List Kind) (cells : ℕ) (vs m aux h g : List ℕ) → n1 ≤ length ks → n1 ≤ maxSide → length ks - n1 ≤ maxSide → All (λ v. v < 2 ^ maxInputs) vs
+pub places-placed : (n1 : ℕ) (ks : List Kind) (cells allowance : ℕ) (vs m aux h g : List ℕ) → n1 ≤ length ks → n1 ≤ maxSide → length ks - n1 ≤ maxSide → All (λ v. v < 2 ^ maxInputs) vs
     → length vs ≤ maxVectors → cells ≤ maxCells → m ≡ masksOf ks → aux ≡ 0 ∷ map (placeBy (take n1 m) (drop n1 m)) vs → length h ≡ 2 ^ n1 → g ≡ replicate cells 0
-    → placed aux h g 0 ≡ settle (build.placingOf n1 ks cells vs) (replicate (2 ^ n1) 0) (replicate cells 0)
+    → placed aux h g 0 allowance ≡ settle allowance (build.placingOf n1 ks cells vs) (replicate (2 ^ n1) 0) (replicate cells 0)
 unfolding caresIn build.placingOf settled
-places-placed n1 ks cells vs m aux h g a b c w few cells-few em ea eh eg =
+places-placed n1 ks cells allowance vs m aux h g a b c w few cells-few em ea eh eg =
     let f : Kind → ℕ = λ k. maskOf k % 2 ^ maxInputs in
     let e : aux ≡ 0 ∷ map (placeBy (masksOf (take n1 ks)) (masksOf (drop n1 ks))) vs =
     ea ∙ ap (λ (l : List ℕ). 0 ∷ map (placeBy (take n1 l) (drop n1 l)) vs) em
@@ -114,5 +114,5 @@ places-placed n1 ks cells vs m aux h g a b c w few cells-few em ea eh eg =
     fit-is aux (length h) (length g) 0 (omega arith) (omega arith) (omega (arith, pow-mono {i = n1} {j = maxSide} b)) (omega arith) refl
     (rw (e, eh) (places-found n1 ks a b c vs w)) in
     let q : caresOf 0 aux ≡ build.caresFrom 1 n1 ks vs = owned-none (caresIn aux) ∙ rw e (places-cares n1 ks a b c 1 vs w) in
-    placed-fit aux h g 0 t
+    placed-fit aux h g 0 allowance t
     ∙ rw (q, eh, eg)

@@ -22,13 +22,13 @@ abbrev table : tie.Start → Tables
 table s = lent (s .args .h .now) (s .args .g .now) (s .args .aux .now)
 
 -- what checks 1 to 7 say
-climbed : (c : tie.After-check-list) → let s = c .before .before .before .before .before .before in c .check-list .result ≡ ladder (givenList (s .args .n) (s .args .variables) (s .args .p) (s .args .n1) (s .args .cells) (s .args .vectors .now) (table s))
+climbed : (c : tie.After-check-list) → let s = c .before .before .before .before .before .before in c .check-list .result ≡ ladder (givenList (s .args .n) (s .args .p) (s .args .n1) (s .args .cells) (s .args .vectors .now) (table s))
 climbed c =
     let s = c .before .before .before .before .before .before in
     c .check-list .ensures
     ∙ ap (λ (t : Bool). ladder (listChecks (s .args .n) (refuseIf 2 t) (s .args .cells) (s .args .vectors .now) (length (s .args .g .now)) (length (s .args .aux .now)))) (c .before .too-many .ensures)
 
-passed : (c : tie.Else1) → let s = c .before .before .before .before .before .before .before .before in ladder (givenList (s .args .n) (s .args .variables) (s .args .p) (s .args .n1) (s .args .cells) (s .args .vectors .now) (table s)) .number ≡ 0
+passed : (c : tie.Else1) → let s = c .before .before .before .before .before .before .before .before in ladder (givenList (s .args .n) (s .args .p) (s .args .n1) (s .args .cells) (s .args .vectors .now) (table s)) .number ≡ 0
 passed c = sym (ap (λ (r : Refusal). r .number) (climbed (c .before .before))) ∙ c .if1 .left
 
 list : (c : tie.Else1) → let s = c .before .before .before .before .before .before .before .before in ListPassed (s .args .n) (check2Given (s .args .p) (s .args .n1)) (s .args .cells) (s .args .vectors .now) (length (s .args .g .now)) (length (s .args .aux .now))
@@ -46,7 +46,7 @@ returns c =
     let s = c .before .before .before .before .before .before .before .before .before in
     let d = c .before .before .before in
     ap (λ (b : Built). after b (s .args .h .now) (s .args .g .now) (s .args .aux .now)) (c .refused .ensures)
-    ∙ given-list (s .args .n) (s .args .variables) (s .args .p) (s .args .n1) (s .args .cells) (s .args .vectors .now) (table s) (d .check-list .result) (climbed d) (c .before .if1 .taken)
+    ∙ given-list (s .args .n) (s .args .variables) (s .args .p) (s .args .n1) (s .args .cells) (s .args .allowance) (s .args .vectors .now) (table s) (d .check-list .result) (climbed d) (c .before .if1 .taken)
 
 check-given-requires : tie.Need-check-given-requires
 check-given-requires c κs = let l = list c in (l .listed .inputs, few c, l .listed .few)
@@ -56,7 +56,7 @@ returns-2 c =
     let s = c .before .before .before .before .before .before .before .before .before .before .before .before in
     let d = c .before .before .before in
     ap (λ (b : Built). after b (s .args .h .now) (s .args .g .now) (s .args .aux .now)) (c .refused2 .ensures)
-    ∙ given-variables (s .args .n) (s .args .variables) (s .args .p) (s .args .n1) (s .args .cells) (s .args .vectors .now) (table s) (passed (d .before)) (d .check-given .result) (d .check-given .ensures) (c .before .if2 .taken)
+    ∙ given-variables (s .args .n) (s .args .variables) (s .args .p) (s .args .n1) (s .args .cells) (s .args .allowance) (s .args .vectors .now) (table s) (passed (d .before)) (d .check-given .result) (d .check-given .ensures) (c .before .if2 .taken)
 
 complete-requires : tie.Need-complete-requires
 complete-requires c κs =
@@ -68,7 +68,7 @@ complete-requires c κs =
 returns-3 : tie.Need-returns-3
 returns-3 c =
     let s = c .before .before .before .before .before .before .before .before .before .before .before .before .before .before .before .before .before .before .before .before .before in
-    c .before .before .before .before .before .before .complete .ensures ∙ sym (given-rest (s .args .n) (s .args .variables) (s .args .p) (s .args .n1) (s .args .cells) (s .args .vectors .now) (table s) (passed (c .before .before .before .before .before .before .before .before .before .before .before .before .before)) (right (c .before .before .before .before .before .before .before .before .before .before)))
+    c .before .before .before .before .before .before .complete .ensures ∙ sym (given-rest (s .args .n) (s .args .variables) (s .args .p) (s .args .n1) (s .args .cells) (s .args .allowance) (s .args .vectors .now) (table s) (passed (c .before .before .before .before .before .before .before .before .before .before .before .before .before)) (right (c .before .before .before .before .before .before .before .before .before .before)))
 
 pub build-given-spec : {M : Type 1} → statement M
 build-given-spec =

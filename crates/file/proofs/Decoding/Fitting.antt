@@ -128,10 +128,10 @@ module _ (n n1 : ℕ) (second : Refusal) (ks : List Kind) (cells : ℕ) (vs : Li
   accepted-fits = holds-fits u T vs H h-low (omega arith)
 
 -- of either build
-module _ (r : Refusal) (n n1 : ℕ) (second : Refusal) (ks : List Kind) (cells : ℕ) (vs : List ℕ) (t : Tables)
+module _ (r : Refusal) (n n1 : ℕ) (second : Refusal) (ks : List Kind) (cells allowance : ℕ) (vs : List ℕ) (t : Tables)
     (pass : r .number ≡ 0 → Passed n n1 second ks cells vs t) where
   abbrev o : Outcome
-  o = outcome r n n1 ks cells vs t
+  o = outcome r n n1 ks cells allowance vs t
 
   pub outcome-fits : o .built .refusal ≡ 0 → WordsFit (o .built .unit) (o .tables)
-  outcome-fits z = let a = outcome-accepted n n1 ks cells vs t r z in rw (a .is) (accepted-fits n n1 second ks cells vs t (pass (a .passed)) (a .placed))
+  outcome-fits z = let a = outcome-accepted n n1 ks cells allowance vs t r z in rw (a .is) (accepted-fits n n1 second ks cells vs t (pass (a .passed)) (a .placed))

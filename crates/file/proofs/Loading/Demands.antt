@@ -67,8 +67,8 @@ module _ (into : Tables) (roomy : Roomy into) (o : Outcome) (vs : List ℕ) (hel
         ∙ ap (take (2 ^ n1)) (h-whole u (o .tables) (fit z))
         ∙ take-take (2 ^ n1) (rowsIn u) (o .tables .h) (omega arith)
 
-    demand-3 : (r : Refusal) (ks : List Kind) (cells : ℕ) → Demand3 r n1 ks cells vs o → Demand3 r n1 ks cells vs (carried readOf into o)
-    demand-3 r ks cells d =
+    demand-3 : (r : Refusal) (ks : List Kind) (cells allowance : ℕ) → Demand3 r n1 ks cells allowance vs o → Demand3 r n1 ks cells allowance vs (carried readOf into o)
+    demand-3 r ks cells allowance d =
         record {
           shifted = λ z. rw (displacements-carried z, record-carried same z) (d .shifted z);
           none-exceeds = λ z s i. rw (displacements-carried z) (d .none-exceeds z s i);
@@ -76,49 +76,49 @@ module _ (into : Tables) (roomy : Roomy into) (o : Outcome) (vs : List ℕ) (hel
         }
 
 -- the record has the build's n1
-outcome-side : (r : Refusal) (n n1 : ℕ) (ks : List Kind) (cells : ℕ) (vs : List ℕ) (t : Tables) → outcome r n n1 ks cells vs t .built .refusal ≡ 0 → outcome r n n1 ks cells vs t .built .unit .n1 ≡ n1
+outcome-side : (r : Refusal) (n n1 : ℕ) (ks : List Kind) (cells allowance : ℕ) (vs : List ℕ) (t : Tables) → outcome r n n1 ks cells allowance vs t .built .refusal ≡ 0 → outcome r n n1 ks cells allowance vs t .built .unit .n1 ≡ n1
 unfolding recordOf
-outcome-side r n n1 ks cells vs t z = rw (outcome-accepted n n1 ks cells vs t r z .is)
+outcome-side r n n1 ks cells allowance vs t z = rw (outcome-accepted n n1 ks cells allowance vs t r z .is)
 
 -- ---- variables chosen by rule
 
-module _ (n degree cells : ℕ) (vs : List ℕ) (t : Tables) where
-  pub chosen-fits : buildChosen n degree cells vs t .built .refusal ≡ 0 → WordsFit (buildChosen n degree cells vs t .built .unit) (buildChosen n degree cells vs t .tables)
+module _ (n degree cells allowance : ℕ) (vs : List ℕ) (t : Tables) where
+  pub chosen-fits : buildChosen n degree cells allowance vs t .built .refusal ≡ 0 → WordsFit (buildChosen n degree cells allowance vs t .built .unit) (buildChosen n degree cells allowance vs t .tables)
   unfolding buildChosen
-  chosen-fits = outcome-fits (chosenRefusal n degree ks cells vs t) n (rowsShare (length ks)) _ ks cells vs t (chosen-passed n degree cells vs t)
+  chosen-fits = outcome-fits (chosenRefusal n degree ks cells vs t) n (rowsShare (length ks)) _ ks cells allowance vs t (chosen-passed n degree cells vs t)
     where
       ks : List Kind
       ks = chosenKinds n degree vs
 
-  chosen-side : buildChosen n degree cells vs t .built .refusal ≡ 0 → buildChosen n degree cells vs t .built .unit .n1 ≡ rowsShare (length (chosenKinds n degree vs))
+  chosen-side : buildChosen n degree cells allowance vs t .built .refusal ≡ 0 → buildChosen n degree cells allowance vs t .built .unit .n1 ≡ rowsShare (length (chosenKinds n degree vs))
   unfolding buildChosen
-  chosen-side = outcome-side (chosenRefusal n degree (chosenKinds n degree vs) cells vs t) n (rowsShare (length (chosenKinds n degree vs))) (chosenKinds n degree vs) cells vs t
+  chosen-side = outcome-side (chosenRefusal n degree (chosenKinds n degree vs) cells vs t) n (rowsShare (length (chosenKinds n degree vs))) (chosenKinds n degree vs) cells allowance vs t
 
 pub carried-chosen-demand-2 : (into : Tables) → Roomy into → Demand2Chosen (carriedChosen readOf into buildChosen) lookupOf recoverOf
-carried-chosen-demand-2 into roomy n degree cells vs t =
-    demand-2 into roomy (buildChosen n degree cells vs t) vs (chosen-holds n degree cells vs t) (chosen-fits n degree cells vs t) n (chosen-demand-2 n degree cells vs t)
+carried-chosen-demand-2 into roomy n degree cells allowance vs t =
+    demand-2 into roomy (buildChosen n degree cells allowance vs t) vs (chosen-holds n degree cells allowance vs t) (chosen-fits n degree cells allowance vs t) n (chosen-demand-2 n degree cells allowance vs t)
 
 pub carried-chosen-demand-3 : (into : Tables) → Roomy into → Demand3Chosen (carriedChosen readOf into buildChosen)
-carried-chosen-demand-3 into roomy n degree cells vs t =
-    demand-3 into roomy (buildChosen n degree cells vs t) vs (chosen-holds n degree cells vs t) (chosen-fits n degree cells vs t) _ (chosen-side n degree cells vs t) (chosen-record-carried n degree cells vs t) _ _ _
-    (chosen-demand-3 n degree cells vs t)
+carried-chosen-demand-3 into roomy n degree cells allowance vs t =
+    demand-3 into roomy (buildChosen n degree cells allowance vs t) vs (chosen-holds n degree cells allowance vs t) (chosen-fits n degree cells allowance vs t) _ (chosen-side n degree cells allowance vs t) (chosen-record-carried n degree cells allowance vs t) _ _ _ _
+    (chosen-demand-3 n degree cells allowance vs t)
 
 -- ---- variables given by the caller
 
-module _ (n : ℕ) (variables : List Variable) (p n1 cells : ℕ) (vs : List ℕ) (t : Tables) (slots : length variables ≡ maxVariables) where
-  pub given-fits : buildGiven n variables p n1 cells vs t .built .refusal ≡ 0 → WordsFit (buildGiven n variables p n1 cells vs t .built .unit) (buildGiven n variables p n1 cells vs t .tables)
+module _ (n : ℕ) (variables : List Variable) (p n1 cells allowance : ℕ) (vs : List ℕ) (t : Tables) (slots : length variables ≡ maxVariables) where
+  pub given-fits : buildGiven n variables p n1 cells allowance vs t .built .refusal ≡ 0 → WordsFit (buildGiven n variables p n1 cells allowance vs t .built .unit) (buildGiven n variables p n1 cells allowance vs t .tables)
   unfolding buildGiven
-  given-fits = outcome-fits (givenRefusal n p n1 (kindsOf (take p variables)) cells vs t) n n1 _ (kindsOf (take p variables)) cells vs t (given-passed n variables p n1 cells vs t slots)
+  given-fits = outcome-fits (givenRefusal n p n1 (kindsOf (take p variables)) cells vs t) n n1 _ (kindsOf (take p variables)) cells allowance vs t (given-passed n variables p n1 cells vs t slots)
 
-  given-side : buildGiven n variables p n1 cells vs t .built .refusal ≡ 0 → buildGiven n variables p n1 cells vs t .built .unit .n1 ≡ n1
+  given-side : buildGiven n variables p n1 cells allowance vs t .built .refusal ≡ 0 → buildGiven n variables p n1 cells allowance vs t .built .unit .n1 ≡ n1
   unfolding buildGiven
-  given-side = outcome-side (givenRefusal n p n1 (kindsOf (take p variables)) cells vs t) n n1 (kindsOf (take p variables)) cells vs t
+  given-side = outcome-side (givenRefusal n p n1 (kindsOf (take p variables)) cells vs t) n n1 (kindsOf (take p variables)) cells allowance vs t
 
 pub carried-given-demand-2 : (into : Tables) → Roomy into → Demand2Given (carriedGiven readOf into buildGiven) lookupOf recoverOf
-carried-given-demand-2 into roomy n variables p n1 cells vs t slots =
-    demand-2 into roomy (buildGiven n variables p n1 cells vs t) vs (given-holds n variables p n1 cells vs t slots) (given-fits n variables p n1 cells vs t slots) n (given-demand-2 n variables p n1 cells vs t slots)
+carried-given-demand-2 into roomy n variables p n1 cells allowance vs t slots =
+    demand-2 into roomy (buildGiven n variables p n1 cells allowance vs t) vs (given-holds n variables p n1 cells allowance vs t slots) (given-fits n variables p n1 cells allowance vs t slots) n (given-demand-2 n variables p n1 cells allowance vs t slots)
 
 pub carried-given-demand-3 : (into : Tables) → Roomy into → Demand3Given (carriedGiven readOf into buildGiven)
-carried-given-demand-3 into roomy n variables p n1 cells vs t slots =
-    demand-3 into roomy (buildGiven n variables p n1 cells vs t) vs (given-holds n variables p n1 cells vs t slots) (given-fits n variables p n1 cells vs t slots) n1 (given-side n variables p n1 cells vs t slots) (given-record-carried n variables p n1 cells vs t slots) _ _ _
-    (given-demand-3 n variables p n1 cells vs t slots)
+carried-given-demand-3 into roomy n variables p n1 cells allowance vs t slots =
+    demand-3 into roomy (buildGiven n variables p n1 cells allowance vs t) vs (given-holds n variables p n1 cells allowance vs t slots) (given-fits n variables p n1 cells allowance vs t slots) n1 (given-side n variables p n1 cells allowance vs t slots) (given-record-carried n variables p n1 cells allowance vs t slots) _ _ _ _
+    (given-demand-3 n variables p n1 cells allowance vs t slots)

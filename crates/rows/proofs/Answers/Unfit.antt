@@ -110,11 +110,11 @@ fit-is aux rows cells owner a b c d e f =
 
 -- ---- the answer by the test
 
-module _ (aux h g : List ℕ) (owner : ℕ) where
-  pub placed-unfit : unfit aux (length h) (length g) owner ≡ true → placed aux h g owner ≡ left (record { end = Unfit; tries = 0 }) h g
+module _ (aux h g : List ℕ) (owner a : ℕ) where
+  pub placed-unfit : unfit aux (length h) (length g) owner ≡ true → placed aux h g owner a ≡ left (record { end = Unfit; tries = 0 }) h g
   unfolding placed
   placed-unfit e = rw (e, placed)
 
-  pub placed-fit : unfit aux (length h) (length g) owner ≡ false → placed aux h g owner ≡ settled (caresOf owner aux) (length h) g
+  pub placed-fit : unfit aux (length h) (length g) owner ≡ false → placed aux h g owner a ≡ settled a (caresOf owner aux) (length h) g
   unfolding placed
   placed-fit e = rw (e, placed)

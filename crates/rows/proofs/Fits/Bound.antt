@@ -55,6 +55,10 @@ module _ (g : List ℕ) (m : List Care) where
       let f = fit-at g m d h in
       blocked g m d (λ e l. (inside-less (length g) d e m (omega arith) (fits-in g d m (f .fits) .0), f .before e l))
 
+  -- and so are those tried where none is found
+  pub none-le : (t n : ℕ) → firstFit g m ≡ None t n → t ≤ length m * filled g
+  none-le t n h = let f = fit-none g m t n h .0 in blocked g m t (λ e l. (f .within e l, f .never e))
+
   -- where the row is inside up to there, one is found
   pub first-fits : inside (length g) (length m * filled g) m ≡ true → (d : ℕ) × (firstFit g m ≡ At d) × (d ≤ length m * filled g)
   first-fits h = go (firstFit g m) refl

@@ -1,5 +1,5 @@
--- What the writing of a row does to the cells. Assumes nothing.
-use Prim.Native.Nat.{ℕ, _+_, _<_}
+-- The vectors of a row, and what their writing does to the cells. Assumes nothing.
+use Prim.Native.Nat.{ℕ, suc, _+_, _<_}
 use native.Mathlib.Nat.{add-right-cancel}
 use native.Mathlib.Omega.{arith}
 use mathlib.Core.Path.{_≡_, refl, sym, ap, _∙_}
@@ -12,9 +12,15 @@ use lib.Seq.{getD-set-same, getD-set-other}
 use borrow.Author.Tests.{ltb-true, eqb-true, eqb-false}
 use Rattle.lists.proofs.Tests.{and-true}
 use Rattle.lists.specs.Members.{In}
-use Rattle.rows.specs.Care.{Care, keep, inRow}
+use Rattle.rows.specs.Care.{Care, caresBy, keep, inRow}
 use Rattle.rows.specs.Fit.{cellOf, isFree, inside, clear, fitsAt, put}
 use Rattle.rows.proofs.Fits.First.{fits-in}
+
+-- an entry is one vector
+pub cares-length : (row column : ℕ → ℕ) (i : ℕ) (xs : List ℕ) → length (caresBy row column i xs) ≡ length xs
+unfolding caresBy
+cares-length row column i [] = refl
+cares-length row column i (x ∷ xs) = ap suc (cares-length row column (suc i) xs)
 
 -- ---- the vectors of a row
 

@@ -155,6 +155,11 @@ pub fit-none : (g : List ℕ) (m : List Care) (t n : ℕ) → firstFit g m ≡ N
 fit-none g [] t n h = let z : _≡_ {A = ℕ} 0 1 = cc (first-empty g) in absurd (omega arith)
 fit-none g (c ∷ cs) t n h = rw h at (answer-first g c cs)
 
+-- of an occupied row no more are tried than there are cells
+pub none-low : (g : List ℕ) (m : List Care) (t n : ℕ) → 0 < length m → firstFit g m ≡ None t n → t ≤ length g
+none-low g m zero n l h = omega arith
+none-low g m (suc t) n l h = omega (arith, inside-low (length g) t m l (fit-none g m (suc t) n h .0 .within t (omega arith)))
+
 -- ---- the search finds what is so
 
 clash : (g : List ℕ) (e : ℕ) (m : List Care) → fitsAt g e m ≡ true → fitsAt g e m ≡ false → ⊥

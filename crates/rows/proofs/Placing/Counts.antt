@@ -40,7 +40,7 @@ module _ (cs : List Care) (h : List ℕ) (r d : ℕ) where
       let o = not-cons r p ps n in
       (rw (getD-set-other h r p d 0 (λ e. o .0 (sym e))) (b .0), bounded-set start ps (o .1) (b .1))
 
-  tries-set : (order : List ℕ) → has r order ≡ false → triesOf (set h r d) order ≡ triesOf h order
+  pub tries-set : (order : List ℕ) → has r order ≡ false → triesOf (set h r d) order ≡ triesOf h order
   unfolding triesOf
   tries-set [] n = refl
   tries-set (p ∷ ps) n =
@@ -64,7 +64,7 @@ module _ (cs : List Care) (start : ℕ) where
   unfolding weightOf
   fit-bound s r d f c = le-trans (first-le (s .g) (inRow r cs) d f) (mul-le-mul-left (length (inRow r cs)) (c .count))
 
-  counted-turn : (s : State) (r d : ℕ) → Next cs s r → firstFit (s .g) (inRow r cs) ≡ At d → Counted cs start s → Counted cs start (placeRow cs s r d)
+  pub counted-turn : (s : State) (r d : ℕ) → Next cs s r → firstFit (s .g) (inRow r cs) ≡ At d → Counted cs start s → Counted cs start (placeRow cs s r d)
   unfolding Bounded triesOf weightOf
   counted-turn s r d n f c =
       let shut = open-not cs (s .order) r (n .weighs) in
@@ -75,6 +75,9 @@ module _ (cs : List Care) (start : ℕ) where
         tries = rw (is, tries-set cs (s .h) r d (s .order) shut) (omega (arith, c .tries));
       }
 
-pub counted : (cs : List Care) (h g : List ℕ) → Counted cs (filled g) (place cs h g .state)
+pub counted-start : (cs : List Care) (h g : List ℕ) → Counted cs (filled g) (record { h = h; g = g; tries = 0; order = [] })
 unfolding Bounded triesOf
-counted cs h g = at-end cs (Counted cs (filled g)) (counted-turn cs (filled g)) h g (record { count = omega arith; bounded = tt; tries = refl })
+counted-start cs h g = record { count = omega arith; bounded = tt; tries = refl }
+
+pub counted : (cs : List Care) (h g : List ℕ) → Counted cs (filled g) (place cs h g .state)
+counted cs h g = at-end cs (Counted cs (filled g)) (counted-turn cs (filled g)) h g (counted-start cs h g)

@@ -4,7 +4,7 @@ use native.Mathlib.Nat.{eq-zero-or-pos}
 use native.Mathlib.Omega.{arith}
 use mathlib.Core.Path.{_≡_, refl, sym, ap, _∙_}
 use mathlib.Core.Bool.{true, false, true≢false, false≢true}
-use mathlib.Core.List.{List}
+use mathlib.Core.List.{List, []}
 use mathlib.Core.Logic.{_⊎_, inl, inr, ⊎-elim}
 use lib.ListN.{length, getD, set}
 use lib.Seq.{getD-set-same, getD-set-other}
@@ -35,9 +35,9 @@ pub record Lies (cs : List Care) (s : State) (i : ℕ) : Type 0 where
   pub holds : getD (s .g) i 0 ≡ care .index
 
 -- over the cells g₀ at the start
-record Lying (cs : List Care) (g₀ : List ℕ) (s : State) : Type 0 where
-  back : (i : ℕ) → i < length (s .g) → (getD (s .g) i 0 ≡ getD g₀ i 0) ⊎ Lies cs s i
-  kept : (i : ℕ) → (getD g₀ i 0 ≡ 0 → ⊥) → getD (s .g) i 0 ≡ getD g₀ i 0
+pub record Lying (cs : List Care) (g₀ : List ℕ) (s : State) : Type 0 where
+  pub back : (i : ℕ) → i < length (s .g) → (getD (s .g) i 0 ≡ getD g₀ i 0) ⊎ Lies cs s i
+  pub kept : (i : ℕ) → (getD g₀ i 0 ≡ 0 → ⊥) → getD (s .g) i 0 ≡ getD g₀ i 0
 
 -- ---- a turn
 
@@ -85,13 +85,17 @@ module _ (cs : List Care) (s : State) (r d : ℕ) (n : Next cs s r) (f : firstFi
           (put-either (s .g) d i (inRow r cs) l)
 
 -- the cell of a vector whose row is placed was free at the start
-record Clearing (cs : List Care) (g₀ : List ℕ) (s : State) : Type 0 where
-  lying : Lying cs g₀ s
-  size : length (s .g) ≡ length g₀
-  cells : (c : Care) → In c cs → has (c .row) (s .order) ≡ true
+pub record Clearing (cs : List Care) (g₀ : List ℕ) (s : State) : Type 0 where
+  pub lying : Lying cs g₀ s
+  pub size : length (s .g) ≡ length g₀
+  pub cells : (c : Care) → In c cs → has (c .row) (s .order) ≡ true
       → (c .column + getD (s .h) (c .row) 0 < length g₀) × (getD g₀ (c .column + getD (s .h) (c .row) 0) 0 ≡ 0)
 
-clearing-turn : (cs : List Care) (s : State) (r d : ℕ) → Next cs s r → firstFit (s .g) (inRow r cs) ≡ At d → (g₀ : List ℕ) → Clearing cs g₀ s
+pub clearing-start : (cs : List Care) (h g : List ℕ) → Clearing cs g (record { h = h; g = g; tries = 0; order = [] })
+unfolding has
+clearing-start cs h g = record { lying = record { back = λ i l. inl refl; kept = λ i z. refl }; size = refl; cells = λ c i m. absurd (false≢true m) }
+
+pub clearing-turn : (cs : List Care) (s : State) (r d : ℕ) → Next cs s r → firstFit (s .g) (inRow r cs) ≡ At d → (g₀ : List ℕ) → Clearing cs g₀ s
     → Clearing cs g₀ (placeRow cs s r d)
 clearing-turn cs s r d n f g₀ y =
     record {
@@ -135,31 +139,19 @@ module _ (cs : List Care) (distinct : Distinct cs) (pos : (c : Care) → In c cs
 -- ---- the end
 
 module _ (cs : List Care) (h g : List ℕ) where
-  lying : Lying cs g (P cs h g .state)
-  unfolding has
-  lying =
-      at-end cs (Lying cs g) (λ s r d n f. lying-turn cs s r d n f g) h g
-      (record { back = λ i l. inl refl; kept = λ i z. refl })
+  clearing : Clearing cs g (P cs h g .state)
+  clearing = at-end cs (Clearing cs g) (λ s r d n f. clearing-turn cs s r d n f g) h g (clearing-start cs h g)
 
   pub lengths : (length (P cs h g .state .h) ≡ length h) × (length (P cs h g .state .g) ≡ length g)
   lengths = (ordered cs h g .size, cells-length cs h g)
 
   -- a cell that was taken at the start keeps its word
   pub taken-kept : (i : ℕ) → (getD g i 0 ≡ 0 → ⊥) → getD (P cs h g .state .g) i 0 ≡ getD g i 0
-  taken-kept = lying .kept
+  taken-kept = clearing .lying .kept
 
   -- each cell has the word of the start, or holds the index of a vector that leads there
   pub held-back : (i : ℕ) → i < length g → (getD (P cs h g .state .g) i 0 ≡ getD g i 0) ⊎ Lies cs (P cs h g .state) i
-  held-back i l = lying .back i (rw (cells-length cs h g) l)
-
-  -- the cell of a vector whose row is placed was free at the start
-  pub cell-cleared : (c : Care) → In c cs → has (c .row) (P cs h g .state .order) ≡ true
-      → (c .column + getD (P cs h g .state .h) (c .row) 0 < length g) × (getD g (c .column + getD (P cs h g .state .h) (c .row) 0) 0 ≡ 0)
-  unfolding has
-  cell-cleared =
-      at-end cs (Clearing cs g) (λ s r d n f. clearing-turn cs s r d n f g) h g
-      (record { lying = record { back = λ i l. inl refl; kept = λ i z. refl }; size = refl; cells = λ c i m. absurd (false≢true m) })
-      .cells
+  held-back i l = clearing .lying .back i (rw (cells-length cs h g) l)
 
   -- over empty cells, each that is not empty holds the index of a vector that leads there
   pub held-only : filled g ≡ 0 → (i : ℕ) → i < length g → (getD (P cs h g .state .g) i 0 ≡ 0 → ⊥) → Lies cs (P cs h g .state) i

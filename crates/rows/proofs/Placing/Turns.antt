@@ -11,7 +11,7 @@ use Rattle.rows.specs.Care.{Care, inRow, openWeight, Heavy, heaviest}
 use Rattle.rows.specs.Fit.{firstFit}
 use Rattle.rows.specs.Place.{State, Placing, placeRow, placeIn, place}
 use Rattle.rows.specs.declared.End.{End}
-use Rattle.rows.specs.declared.End.the-variants.{All, NoFit, Unfit}
+use Rattle.rows.specs.declared.End.the-variants.{All, NoFit, Over, Unfit}
 use Rattle.rows.specs.declared.Fit.{Fit}
 use Rattle.rows.specs.declared.Fit.the-variants.{At, None}
 use Rattle.rows.proofs.Fits.Cells.{put-length}
@@ -99,13 +99,20 @@ cells-length cs h g = at-end cs (λ s. length (s .g) ≡ length g) (λ s r d n f
 pub record Ended (cs : List Care) (P : Placing) : Type 0 where
   pub none-left : P .end ≡ All → (i : ℕ) → i < length (P .state .h) → openWeight cs (P .state .order) i ≡ 0
   pub no-fit : (r tried cells : ℕ) → P .end ≡ NoFit r tried cells → Next cs (P .state) r × (firstFit (P .state .g) (inRow r cs) ≡ None tried cells)
+  pub not-over : (r : ℕ) → P .end ≡ Over r → ⊥
   pub not-unfit : P .end ≡ Unfit → ⊥
 
 -- the two ends differ
 pub all-no-fit : {r t n : ℕ} → _≡_ {A = End} All (NoFit r t n) → ⊥
 all-no-fit {r} {t} {n} e = let z : _≡_ {A = ℕ} 0 1 = cc in omega arith
 
--- and no placing ends with the third
+-- and no placing ends with another
+all-over : {r : ℕ} → _≡_ {A = End} All (Over r) → ⊥
+all-over {r} e = let z : _≡_ {A = ℕ} 0 1 = cc in omega arith
+
+no-fit-over : {r t n q : ℕ} → _≡_ {A = End} (NoFit r t n) (Over q) → ⊥
+no-fit-over {r} {t} {n} {q} e = let z : _≡_ {A = ℕ} 0 1 = cc in omega arith
+
 all-unfit : _≡_ {A = End} All Unfit → ⊥
 all-unfit e = let z : _≡_ {A = ℕ} 0 1 = cc in omega arith
 
@@ -113,13 +120,14 @@ no-fit-unfit : {r t n : ℕ} → _≡_ {A = End} (NoFit r t n) Unfit → ⊥
 no-fit-unfit {r} {t} {n} e = let z : _≡_ {A = ℕ} 0 1 = cc in omega arith
 
 ended-all : (cs : List Care) (s : State) → ((i : ℕ) → i < length (s .h) → openWeight cs (s .order) i ≡ 0) → Ended cs (record { end = All; state = s })
-ended-all cs s z = record { none-left = λ e. z; no-fit = λ r t n e. absurd (all-no-fit e); not-unfit = all-unfit }
+ended-all cs s z = record { none-left = λ e. z; no-fit = λ r t n e. absurd (all-no-fit e); not-over = λ r e. all-over e; not-unfit = all-unfit }
 
 ended-stuck : (cs : List Care) (s : State) (r t c : ℕ) → Next cs s r → firstFit (s .g) (inRow r cs) ≡ None t c → Ended cs (record { end = NoFit r t c; state = s })
 ended-stuck cs s r t c n k =
     record {
       none-left = λ e. absurd (all-no-fit (sym e));
       no-fit = λ q u v e. let a : r ≡ q = cc in let b : t ≡ u = cc in let z : c ≡ v = cc in rw (← a, ← b, ← z) (n, k);
+      not-over = λ q e. no-fit-over e;
       not-unfit = no-fit-unfit;
     }
 

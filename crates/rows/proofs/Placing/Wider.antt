@@ -20,7 +20,7 @@ use Rattle.rows.specs.Place.{State, Placing, placeRow, placeIn, place}
 use Rattle.rows.specs.Demand.{Columns}
 use Rattle.rows.specs.Needed.{More, places, Keeps, Least, Beside}
 use Rattle.rows.specs.declared.End.{End}
-use Rattle.rows.specs.declared.End.the-variants.{All, NoFit, Unfit}
+use Rattle.rows.specs.declared.End.the-variants.{All, NoFit, Over, Unfit}
 use Rattle.rows.specs.declared.Fit.{Fit}
 use Rattle.rows.specs.declared.Fit.the-variants.{At, None}
 use Rattle.rows.proofs.Fits.First.{fit-none, fit-inside}
@@ -186,6 +186,7 @@ module _ (cs : List Care) (h g g' : List ℕ) (k : More g g') where
           let a = follows .stuck r t n z in
           let s = stays (suc (a .left)) cs (a .at-row) q (ap (has q) (a .beside .order) ∙ e) in
           rw (a .same) (s .0, s .1 ∙ ap (λ (l : List ℕ). getD l q 0) (a .beside .rows))
+      go (Over r) z = absurd (ended cs h g .not-over r z)
       go Unfit z = absurd (ended cs h g .not-unfit z)
 
   -- the row r has no displacement over g, and needs n cells
@@ -251,7 +252,7 @@ module _ (cs : List Care) (h g : List ℕ) (r t n : ℕ) (z : place cs h g .end 
 
 -- ---- where every row fits, and lies within fewer cells, every row fits into these
 
-inside-all : (cells d : ℕ) (m : List Care) → ((c : Care) → In c m → c .column + d < cells) → inside cells d m ≡ true
+pub inside-all : (cells d : ℕ) (m : List Care) → ((c : Care) → In c m → c .column + d < cells) → inside cells d m ≡ true
 unfolding inside
 inside-all cells d [] a = refl
 inside-all cells d (c ∷ m) a = rw (lt-ltb (cellOf c d) cells (a c (inl refl))) (inside-all cells d m (λ x i. a x (inr i)))
@@ -265,6 +266,7 @@ within-all cs h g g' k e a = go (place cs h g' .end) refl
 
     go : (x : End) → place cs h g' .end ≡ x → place cs h g' .end ≡ All
     go All z = z
+    go (Over r) z = absurd (ended cs h g' .not-over r z)
     go Unfit z = absurd (ended cs h g' .not-unfit z)
     go (NoFit r t n) z =
         let i = inside-all (length g') (getD H r 0) (inRow r cs) (λ c j. let p = in-row r c cs j in rw (← p .1) (a c (p .0))) in

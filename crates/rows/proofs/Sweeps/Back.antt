@@ -1,21 +1,21 @@
--- The way back from a placing that has no room for a row. Assumes nothing.
+-- The way back from rows that are placed to the cells as they were. Assumes nothing.
 use Prim.Native.Nat.{ℕ, _+_, _≤_, _<_}
 use native.Mathlib.Omega.{arith}
 use mathlib.Core.Path.{_≡_, refl, sym, ap, _∙_}
 use mathlib.Core.Bool.{true, true≢false}
 use mathlib.Core.List.{List, [], _∷_}
 use mathlib.Core.Logic.{_⊎_, inl, inr, ⊎-elim}
-use lib.ListN.{length, getD, replicate}
+use lib.ListN.{length, getD}
 use Rattle.lists.specs.First.{has}
 use Rattle.lists.specs.Members.{In, All}
 use Rattle.lists.proofs.Entries.Members.{all-in, in-pos}
 use Rattle.rows.specs.Care.{Care, inRow, weightOf}
-use Rattle.rows.specs.Place.{State, place}
+use Rattle.rows.specs.Place.{State}
 use Rattle.rows.specs.Answer.{caresIn, caresOf}
 use Rattle.rows.specs.Inner.Chains.{undone, Within, markBit}
 use Rattle.rows.proofs.Fits.Cells.{row-in}
 use Rattle.rows.proofs.Placing.Open.{open-none}
-use Rattle.rows.proofs.Placing.Held.{Lies, lengths, held-back, cell-cleared}
+use Rattle.rows.proofs.Placing.Held.{Lies, Clearing}
 use Rattle.rows.proofs.Sweeps.Marks.{RowState, shut, marked}
 use Rattle.rows.proofs.Sweeps.Undoing.{Leads, Free, Undoing, undone-is}
 use Rattle.rows.proofs.Answers.Owned.{owned-undone, all-owned, all-own}
@@ -31,7 +31,7 @@ pub record WayBack (ws g₀ h g : List ℕ) : Type 0 where
   pub back : undone h (caresIn ws) g ≡ g₀
 
 module _ (owner : ℕ) (ws : List ℕ) (n : ℕ) (g₀ : List ℕ) (rows : All (λ c. c .row < n) (caresIn ws)) (h g : List ℕ) (s : State)
-    (e : place (caresOf owner ws) (replicate n 0) g₀ .state ≡ s) (size : length h ≡ n)
+    (clearing : Clearing (caresOf owner ws) g₀ s) (size : length h ≡ n)
     (states : (r : ℕ) → r < length h → RowState owner ws (caresOf owner ws) (s .order) r (getD h r 0) (getD (s .h) r 0)) (cells : s .g ≡ g) where
   cs : List Care
   cs = caresOf owner ws
@@ -41,7 +41,7 @@ module _ (owner : ℕ) (ws : List ℕ) (n : ℕ) (g₀ : List ℕ) (rows : All (
   row-low c i = omega (arith, all-in (λ x. x .row < n) c (caresOf owner ws) (all-own owner (λ x. x .row < n) (caresIn ws) rows) i)
 
   wide : length g ≡ length g₀
-  wide = ap length (sym cells) ∙ rw e at (lengths (caresOf owner ws) (replicate n 0) g₀ .1)
+  wide = ap length (sym cells) ∙ clearing .size
 
   -- a row that is no mark is placed at that displacement
   placed-at : (c : Care) → In c cs → getD h (c .row) 0 ≤ markBit → (has (c .row) (s .order) ≡ true) × (getD h (c .row) 0 ≡ getD (s .h) (c .row) 0)
@@ -68,7 +68,7 @@ module _ (owner : ℕ) (ws : List ℕ) (n : ℕ) (g₀ : List ℕ) (rows : All (
   unfolding cs
   cleared c i l =
       let p = placed-at c i l in
-      rw (p .1) (rw e at (cell-cleared (caresOf owner ws) (replicate n 0) g₀ c i) (p .0))
+      rw (p .1) (clearing .cells c i (p .0))
 
   leads : (i : ℕ) → Lies cs s i → Leads h cs i
   leads i l = let p = no-mark (l .care) (l .listed) (l .placed) in record { care = l .care; listed = l .listed; placed = p .0; there = rw (p .1) (l .there) }
@@ -78,7 +78,7 @@ module _ (owner : ℕ) (ws : List ℕ) (n : ℕ) (g₀ : List ℕ) (rows : All (
   undoing =
       record {
         size = wide;
-        each = λ i l. rw (← cells) (⊎-elim (λ q. inl q) (λ q. inr (leads i q)) (rw e at (held-back (caresOf owner ws) (replicate n 0) g₀ i l)));
+        each = λ i l. rw (← cells) (⊎-elim (λ q. inl q) (λ q. inr (leads i q)) (clearing .lying .back i (omega (arith, clearing .size))));
       }
 
   pub way-back : WayBack ws g₀ h g

@@ -17,7 +17,7 @@ use Rattle.rows.specs.declared.End.the-variants.{All, NoFit}
 use Rattle.rows.specs.declared.Fit.the-variants.{At, None}
 use Rattle.rows.proofs.Placing.Heaviest.{is-heaviest}
 use Rattle.rows.proofs.Placing.Open.{countOf, count-all, open-is, open-more, open-shut, open-less}
-use Rattle.rows.proofs.Placing.Turns.{next, place-none, place-stuck, place-more}
+use Rattle.rows.proofs.Placing.Turns.{next, Next, is-next, place-none, place-stuck, place-more}
 use Rattle.rows.proofs.Placing.Spreads.{weight-le}
 
 -- ---- the heaviest row by what it is
@@ -106,6 +106,10 @@ module _ (cs : List Care) (P : Placing) (s : State) (level below : ℕ) where
           heaviest-is (openWeight cs (s .order)) (length (s .h)) i l (omega arith)
           (λ r m. omega (arith, w .most r m))
           (λ r m. omega (arith, w .passed r m (omega arith), w .under p))
+
+      -- a row of the level is the next
+      pub sweep-turn : Next cs s i
+      sweep-turn = is-next cs s i (turn .0) (turn .1)
 
       fewer : countOf (openWeight cs (i ∷ s .order)) (length (s .h)) < countOf (openWeight cs (s .order)) (length (s .h))
       fewer = open-less cs (s .order) i (length (s .h)) (omega arith) l

@@ -19,7 +19,7 @@ fits : (e : tie.Else1) → let a = e .before .before .before .before .before .be
 fits e = fits-are _ _ _ _ (fit e)
 
 returns : tie.Need-returns
-returns c = (sym (placed-unfit _ _ _ _ (sym (c .before .unfit .ensures) ∙ c .if1 .taken)), refl)
+returns c = (sym (placed-unfit _ _ _ _ _ (sym (c .before .unfit .ensures) ∙ c .if1 .taken)), refl)
 
 link-requires : tie.Need-link-requires
 link-requires c κs = let f = fits (c .before .before) in (f .packed, (f .some, f .few))
@@ -51,7 +51,7 @@ returns-2 c =
     let l = c .before .before .before .before .before .before .before .before .before .before .before .before .before .before .before .before .before .before .before .before .link in
     let e = c .before .before .before .before .before .before .before .before .before .before .before .before .before .before .before .before .before .before .before .before .before .before .before in
     let a = e .before .before .before .before .before .before .args in (
-      c .before .before .before .before .before .before .before .before .place-rows .ensures ∙ ap₂ (λ (cs : List Care) (n : ℕ). settled (map (owned (a .owner)) cs) n (a .g .now)) (l .ensures .cares) (l .kept .1 .0) ∙ sym (placed-fit _ _ _ _ (fit e)),
+      c .before .before .before .before .before .before .before .before .place-rows .ensures ∙ ap₂ (λ (cs : List Care) (n : ℕ). settled (a .allowance) (map (owned (a .owner)) cs) n (a .g .now)) (l .ensures .cares) (l .kept .1 .0) ∙ sym (placed-fit _ _ _ _ _ (fit e)),
       c .before .before .unlink .ensures ∙ l .ensures .back,
     )
 

@@ -1,20 +1,15 @@
 -- One outcome only (SCOPE 17.2): of every contract, and of demand 1 where a build refuses. Assumes nothing.
 use Prim.Native.Nat.{ℕ, _<_, _≤_}
-use native.Mathlib.Omega.{arith}
 use mathlib.Core.Path.{_≡_, sym, _∙_}
-use mathlib.Core.List.{List, _∷_, _++_}
+use mathlib.Core.List.{List}
 use mathlib.Core.Logic.{_⊎_, inl, inr}
-use lib.ListN.{length, take}
+use lib.ListN.{length}
 use Rattle.lists.proofs.Tests.{le-or-lt}
-use Rattle.vectors.specs.declared.Kind.{Kind}
 use Rattle.vectors.specs.declared.Variable.{Variable}
-use Rattle.vectors.specs.Variable.{kindsOf}
 use Rattle.record.specs.Tables.{Tables}
-use Rattle.build.specs.Build.{rowsShare, Outcome, chosenKinds}
+use Rattle.build.specs.Build.{Outcome}
 use Rattle.unit.specs.Demand2.{ChosenBuild, GivenBuild}
-use Rattle.unit.specs.Demand1.{Cause, cause, WrongDegree, TooMany, PairLeft, variableCauses, lastCauses, chosenCauses, givenCauses, Demand1, Demand1Chosen, Demand1Given}
-use Rattle.unit.proofs.Demand1.Ladder.{Below, gives-below}
-use Rattle.unit.proofs.Demand1.Builds.{list-below}
+use Rattle.unit.specs.Demand1.{Cause, Demand1, Demand1Chosen, Demand1Given}
 
 -- A contract equates the result and every lent word after a call with a definition of the arguments: two outcomes that meet it for the same arguments are equal.
 -- f: `buildChosen`, `buildGiven`, `lookupOf` or `recoverOf` at the arguments, or what any other contract equates its call with.
@@ -28,7 +23,7 @@ abbrev pub needing : ℕ → Outcome → Outcome
 needing needed o =
     record { built = record { refusal = o .built .refusal; place = o .built .place; needed = needed; unit = o .built .unit }; tables = o .tables }
 
-module _ (causes : List Cause) (n1 cells k : ℕ) (t : Tables) (low : Below 14 causes) (o o′ : Outcome) (d : Demand1 causes n1 cells k t o) (d′ : Demand1 causes n1 cells k t o′)
+module _ (causes : List Cause) (n1 cells k : ℕ) (t : Tables) (o o′ : Outcome) (d : Demand1 causes n1 cells k t o) (d′ : Demand1 causes n1 cells k t o′)
     (refused : 0 < o .built .refusal) where
   number-same : o .built .refusal ≡ o′ .built .refusal
   number-same = d .only (o′ .built .refusal) (o′ .built .place) (d′ .refusal) .0
@@ -44,9 +39,7 @@ module _ (causes : List Cause) (n1 cells k : ℕ) (t : Tables) (low : Below 14 c
     where
       go : (13 ≤ o .built .refusal) ⊎ (o .built .refusal < 13) → o .tables ≡ o′ .tables
       go (inr l) = d .leaves .untouched refused l ∙ sym (d′ .leaves .untouched refused′ (rw number-same at l))
-      go (inl l) =
-          let z : o .built .refusal ≡ 13 = omega (arith, gives-below 14 causes (omega arith) low (o .built .refusal) (o .built .place) (d .refusal)) in
-          d .leaves .zeros z ∙ sym (d′ .leaves .zeros (sym number-same ∙ z))
+      go (inl l) = d .leaves .zeros l ∙ sym (d′ .leaves .zeros (rw number-same at l))
 
   outcome-same : o ≡ needing (o .built .needed) o′
   outcome-same = λ i.
@@ -56,19 +49,12 @@ module _ (causes : List Cause) (n1 cells k : ℕ) (t : Tables) (low : Below 14 c
       }
 
 -- two builds that meet demand 1 refuse alike, but that demand does not say how many cells are needed beside 13
-pub chosen-refused-one : (build build′ : ChosenBuild) → Demand1Chosen build → Demand1Chosen build′ → (n degree cells : ℕ) (vs : List ℕ) (t : Tables)
-    → 0 < build n degree cells vs t .built .refusal → build n degree cells vs t ≡ needing (build n degree cells vs t .built .needed) (build′ n degree cells vs t)
-chosen-refused-one build build′ d d′ n degree cells vs t r =
-    let ks : List Kind = chosenKinds n degree vs in
-    let n1 : ℕ = rowsShare (length ks) in
-    outcome-same (chosenCauses n degree ks cells vs t) n1 cells (length vs) t
-    (list-below 14 n (WrongDegree degree) cells vs t (cause 11 (PairLeft ks vs) ∷ lastCauses n1 ks cells vs t) (omega arith) (omega arith, (omega arith, (omega arith, tt))))
-    (build n degree cells vs t) (build′ n degree cells vs t) (d n degree cells vs t) (d′ n degree cells vs t) r
+pub chosen-refused-one : (build build′ : ChosenBuild) → Demand1Chosen build → Demand1Chosen build′ → (n degree cells a : ℕ) (vs : List ℕ) (t : Tables)
+    → 0 < build n degree cells a vs t .built .refusal → build n degree cells a vs t ≡ needing (build n degree cells a vs t .built .needed) (build′ n degree cells a vs t)
+chosen-refused-one build build′ d d′ n degree cells a vs t r = outcome-same _ _ cells (length vs) t _ _ (d n degree cells a vs t) (d′ n degree cells a vs t) r
 
-pub given-refused-one : (build build′ : GivenBuild) → Demand1Given build → Demand1Given build′ → (n : ℕ) (variables : List Variable) (p n1 cells : ℕ) (vs : List ℕ) (t : Tables)
-    → 0 < build n variables p n1 cells vs t .built .refusal → build n variables p n1 cells vs t ≡ needing (build n variables p n1 cells vs t .built .needed) (build′ n variables p n1 cells vs t)
-given-refused-one build build′ d d′ n variables p n1 cells vs t r =
-    let ks : List Kind = kindsOf (take p variables) in
-    outcome-same (givenCauses n p n1 ks cells vs t) n1 cells (length vs) t
-    (list-below 14 n (TooMany p n1) cells vs t (variableCauses n ks vs ++ lastCauses n1 ks cells vs t) (omega arith) (omega arith, (omega arith, (omega arith, (omega arith, (omega arith, tt))))))
-    (build n variables p n1 cells vs t) (build′ n variables p n1 cells vs t) (d n variables p n1 cells vs t) (d′ n variables p n1 cells vs t) r
+pub given-refused-one : (build build′ : GivenBuild) → Demand1Given build → Demand1Given build′ → (n : ℕ) (variables : List Variable) (p n1 cells a : ℕ) (vs : List ℕ) (t : Tables)
+    → 0 < build n variables p n1 cells a vs t .built .refusal
+    → build n variables p n1 cells a vs t ≡ needing (build n variables p n1 cells a vs t .built .needed) (build′ n variables p n1 cells a vs t)
+given-refused-one build build′ d d′ n variables p n1 cells a vs t r =
+    outcome-same _ n1 cells (length vs) t _ _ (d n variables p n1 cells a vs t) (d′ n variables p n1 cells a vs t) r

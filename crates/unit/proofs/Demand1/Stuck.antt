@@ -1,5 +1,5 @@
 -- Refusal 13: the placing ends without a fit exactly where a row in its turn fits nowhere, and that is one row. Assumes nothing.
-use Prim.Native.Nat.{ℕ, _^_, _≤_, _<_}
+use Prim.Native.Nat.{ℕ, suc, _+_, _^_, _≤_, _<_}
 use native.Mathlib.Omega.{arith}
 use mathlib.Core.Path.{_≡_, refl, sym, ap, _∙_}
 use mathlib.Core.Bool.{false}
@@ -11,10 +11,11 @@ use borrow.Author.Tests.{ltb-false, eqb-false}
 use Rattle.lists.proofs.Tests.{and-false, le-or-lt}
 use Rattle.vectors.specs.declared.Kind.{Kind}
 use Rattle.rows.specs.Care.{Care, inRow, weightOf, openWeight}
-use Rattle.rows.specs.Fit.{cellOf, isFree, inside, clear, fitsAt, put}
+use Rattle.rows.specs.Fit.{cellOf, isFree, inside, clear, fitsAt, put, firstFit}
 use Rattle.rows.specs.Place.{State, placeRow, place}
 use Rattle.rows.specs.Demand.{Ahead}
 use Rattle.rows.specs.declared.End.the-variants.{All, NoFit}
+use Rattle.rows.specs.declared.Fit.the-variants.{At}
 use Rattle.rows.proofs.Fits.First.{FirstAt, fit-at, fit-none}
 use Rattle.rows.proofs.Fits.Cells.{fits-free}
 use Rattle.rows.proofs.Placing.Open.{open-is, open-not, open-weight}
@@ -51,10 +52,10 @@ pub fits-blocked : (g : List ℕ) (m : List Care) (d : ℕ) → Fits g m d → B
 fits-blocked g m d f b = let p = f (b .0) (b .1) in ⊎-elim (λ l. omega (arith, p .0)) (λ n. n (p .1)) (b .2)
 
 -- the smallest at which a row fits
-abbrev Least : List ℕ → List Care → ℕ → Type 0
+abbrev pub Least : List ℕ → List Care → ℕ → Type 0
 Least g m d = Fits g m d × ((e : ℕ) → e < d → Blocked g m e)
 
-least-one : (g : List ℕ) (m : List Care) (d e : ℕ) → Least g m d → Least g m e → d ≡ e
+pub least-one : (g : List ℕ) (m : List Care) (d e : ℕ) → Least g m d → Least g m e → d ≡ e
 least-one g m d e a b = go (le-or-lt d e) (le-or-lt e d)
   where
     go : (d ≤ e) ⊎ (e < d) → (e ≤ d) ⊎ (d < e) → d ≡ e
@@ -62,12 +63,12 @@ least-one g m d e a b = go (le-or-lt d e) (le-or-lt e d)
     go (inl l) (inr k) = absurd (fits-blocked g m d (a .0) (b .1 d k))
     go (inl l) (inl k) = omega arith
 
-fit-least : (g : List ℕ) (m : List Care) (d : ℕ) → FirstAt g m d → Least g m d
+pub fit-least : (g : List ℕ) (m : List Care) (d : ℕ) → FirstAt g m d → Least g m d
 fit-least g m d f = (fits-free g d m (f .fits), λ e l. not-fits g e m (f .before e l))
 
 -- ---- the row that is next
 
-turn-one : (cs : List Care) (rows : ℕ) (order : List ℕ) (r q : ℕ) → InTurn cs rows order r → InTurn cs rows order q → r ≡ q
+pub turn-one : (cs : List Care) (rows : ℕ) (order : List ℕ) (r q : ℕ) → InTurn cs rows order r → InTurn cs rows order q → r ≡ q
 turn-one cs rows order r q a b =
     go (a .ahead q (b .row-in) (b .not-placed) (b .occupied)) (b .ahead r (a .row-in) (a .not-placed) (a .occupied))
   where
@@ -117,7 +118,7 @@ module _ (cs : List Care) (rows : ℕ) where
 -- ---- the turns of a placing
 
 -- the turns lead from the cells g, with the rows `order` placed, to others
-abbrev TurnsTo : List Care → ℕ → List ℕ → List ℕ → List Turn → List ℕ → List ℕ → Type 0
+abbrev pub TurnsTo : List Care → ℕ → List ℕ → List ℕ → List Turn → List ℕ → List ℕ → Type 0
 TurnsTo cs rows g order [] g′ order′ = (g ≡ g′) × (order ≡ order′)
 TurnsTo cs rows g order (t ∷ ts) g′ order′ =
     InTurn cs rows order (t .row)
@@ -154,17 +155,27 @@ module _ (cs : List Care) (rows : ℕ) where
 
 -- ---- the placing
 
+-- the tries of the turns
+abbrev pub triesIn : List Turn → ℕ
+triesIn [] = 0
+triesIn (t ∷ ts) = suc (t .at) + triesIn ts
+
+tries-more : (ts : List Turn) (t : Turn) → triesIn (ts ++ (t ∷ [])) ≡ triesIn ts + suc (t .at)
+tries-more [] t = omega arith
+tries-more (u ∷ ts) t = omega (arith, tries-more ts t)
+
 module _ (cs : List Care) (h g : List ℕ) where
   -- a state that turns from the start lead to
-  record Reached (s : State) : Type 0 where
+  pub record Reached (s : State) : Type 0 where
     pub rows-same : length (s .h) ≡ length h
     pub turns : List Turn
     pub lead : TurnsTo cs (length h) g [] turns (s .g) (s .order)
+    pub spent : s .tries ≡ triesIn turns
 
-  reached-start : Reached (record { h = h; g = g; tries = 0; order = [] })
-  reached-start = record { rows-same = refl; turns = []; lead = (refl, refl) }
+  pub reached-start : Reached (record { h = h; g = g; tries = 0; order = [] })
+  reached-start = record { rows-same = refl; turns = []; lead = (refl, refl); spent = refl }
 
-  turn-here : (s : State) (r : ℕ) → Reached s → Next cs s r → InTurn cs (length h) (s .order) r
+  pub turn-here : (s : State) (r : ℕ) → Reached s → Next cs s r → InTurn cs (length h) (s .order) r
   turn-here s r a n = rw (a .rows-same) at (next-turn cs s r n)
 
   reached-more : (s : State) (r d : ℕ) → Next cs s r → Least (s .g) (inRow r cs) d → Reached s → Reached (placeRow cs s r d)
@@ -173,10 +184,14 @@ module _ (cs : List Care) (h g : List ℕ) where
         rows-same = length-set (s .h) r d ∙ a .rows-same;
         turns = a .turns ++ (record { row = r; at = d } ∷ []);
         lead = turns-more cs (length h) (a .turns) g [] (s .g) (s .order) r d (a .lead) (turn-here s r a n) f;
+        spent = omega (arith, a .spent, tries-more (a .turns) (record { row = r; at = d }));
       }
 
-  reached : Reached (place cs h g .state)
-  reached = at-end cs Reached (λ s r d n f a. reached-more s r d n (fit-least (s .g) (inRow r cs) d (fit-at (s .g) (inRow r cs) d f)) a) h g reached-start
+  pub reached-turn : (s : State) (r d : ℕ) → Next cs s r → firstFit (s .g) (inRow r cs) ≡ At d → Reached s → Reached (placeRow cs s r d)
+  reached-turn s r d n f a = reached-more s r d n (fit-least (s .g) (inRow r cs) d (fit-at (s .g) (inRow r cs) d f)) a
+
+  pub reached : Reached (place cs h g .state)
+  reached = at-end cs Reached reached-turn h g reached-start
 
   place-stuck : (r tried needed : ℕ) → place cs h g .end ≡ NoFit r tried needed → (ts : List Turn) × StuckAfter cs (length h) g [] ts r
   place-stuck r tried needed e =

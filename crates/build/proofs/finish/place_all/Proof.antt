@@ -43,7 +43,7 @@ returns c =
     let v = s .pre .1 .1 in
     let z = size s in
     c .before .before .before .before .before .before .place .ensures .0
-    ∙ places-placed (s .args .chart .n1) (kindsBy (s .args .chart)) (length (s .args .g .now)) (s .args .vectors .now) _ _ _ _
+    ∙ places-placed (s .args .chart .n1) (kindsBy (s .args .chart)) (length (s .args .g .now)) (s .args .allowance) (s .args .vectors .now) _ _ _ _
     (omega (arith, v)) (v .2) (omega (arith, v)) (s .pre .1 .0) (s .pre .0 .1) (s .pre .0 .3) (masks-are (c .before .before .before .before .before .before .before .before .before .before .before .before .before .before .before .before .before .before .before)) (c .before .before .before .before .before .before .before .before .before .before .before .before .write-places .ensures)
     (s .pre .0 .2) (c .before .before .before .before .before .before .before .before .before .before .before .before .before .before .before .before .before .clear16 .ensures)
 

@@ -15,8 +15,8 @@ abbrev μ-loop : tie.MeasureT-loop
 loop-holds : tie.Need-loop-holds Inv-loop μ-loop
 loop-holds c = emptying-none _ _ _ (c .before .before .before .pre)
 
-shared-slice-read-d : tie.Need-shared-slice-read-d Inv-loop μ-loop
-shared-slice-read-d c = emptying-at _ _ _ _ _ (c .before .before .before .loop .inv) (c .before .before .loop-test .taken) .0
+slice-read-d : tie.Need-slice-read-d Inv-loop μ-loop
+slice-read-d c = emptying-at _ _ _ _ _ (c .before .before .before .loop .inv) (c .before .before .loop-test .taken) .0
 
 slice-write-g : tie.Need-slice-write-g Inv-loop μ-loop
 slice-write-g c =
@@ -32,10 +32,15 @@ loop-again-2 : tie.Need-loop-again-2 Inv-loop μ-loop
 loop-again-2 c = let l = c .before .before .before .before in emptying-no _ _ _ _ _ (l .loop .inv) (c .before .before .before .loop-test .taken) (c .if1 .left)
 
 same-length : tie.Need-same-length Inv-loop μ-loop
-same-length c = c .before .loop .inv .size
+same-length c = c .before .before .clear16 .kept .0
+
+same-length-2 : tie.Need-same-length-2 Inv-loop μ-loop
+same-length-2 c = c .before .before .before .before .before .loop .inv .size
 
 returns : tie.Need-returns Inv-loop μ-loop
-returns c = emptying-end _ _ _ _ _ (c .before .loop .inv) (c .loop-test .left)
+returns c =
+    let e = c .before .before .before .before in
+    (c .before .before .clear16 .ensures, emptying-end _ _ _ _ _ (e .before .loop .inv) (e .loop-test .left))
 
 pub undo-spec : {M : Type 1} → statement M
 undo-spec =
@@ -47,7 +52,7 @@ undo-spec =
     (λ c. search needs)
     (λ c. search needs)
     (λ c. search needs)
-    shared-slice-read-d
+    slice-read-d
     (λ c. search needs)
     (λ c κs. search needs)
     (λ c. search needs)
@@ -58,5 +63,7 @@ undo-spec =
     loop-again
     (λ c. search needs)
     loop-again-2
+    (λ c κs. search needs)
     same-length
+    same-length-2
     returns)
