@@ -46,6 +46,10 @@ Places B cells a t row = (B .refusal cells t .number ≡ 0) × (placesWithin a (
 abbrev pub Accepts : Builds → ℕ → ℕ → Tables → Type 0
 Accepts B cells a t = B .outcome cells a t .built .refusal ≡ 0
 
+-- a build refused by 13 or 41 has not placed the row that it names
+abbrev pub Unplaced : Builds → Type 0
+Unplaced B = (cells a : ℕ) (t : Tables) → 13 ≤ B .outcome cells a t .built .refusal → Places B cells a t (B .outcome cells a t .built .place) → ⊥
+
 -- there may be so many cells, and G has them
 abbrev pub Room : ℕ → List ℕ → Type 0
 Room cells g = (cells ≤ maxCells) × (cells ≤ length g)

@@ -6,7 +6,7 @@ use mathlib.Core.Bool.{true, false, not, true≢false}
 use mathlib.Core.List.{List, [], _∷_, _++_, map}
 use mathlib.Core.Logic.{⊎-elim}
 use lib.Dec.{ltb}
-use lib.ListN.{length, take, drop}
+use lib.ListN.{length, take, drop, replicate}
 use lib.Seq.{take-at}
 use Rattle.lists.specs.First.{repeated}
 use Rattle.lists.specs.Members.{All}
@@ -18,16 +18,17 @@ use Rattle.vectors.specs.declared.Variable.{Variable}
 use Rattle.span.specs.Span.{firstDependent}
 use Rattle.choice.specs.Choice.{apart}
 use Rattle.rows.specs.Place.{Placing}
+use Rattle.rows.specs.Allowance.{placesWithin}
 use Rattle.rows.specs.declared.End.the-variants.{NoFit}
 use Rattle.rows.proofs.Placing.Allowed.{within-stuck}
-use Rattle.rows.proofs.Placing.Within.{within-placed, placed-within}
+use Rattle.rows.proofs.Placing.Within.{within-placed, placed-within, over-out, stuck-out}
 use Rattle.record.specs.Record.{recordOf}
 use Rattle.record.specs.Tables as tables
 use Rattle.record.specs.Tables.{Tables}
 use Rattle.build.specs.declared.Refusal.{Refusal}
 use Rattle.build.specs.Refusals.{givenChecks, check2Chosen, check2Given, check11, check12}
-use Rattle.build.specs.Build.{rowsShare, Outcome, placingOf, outcome, chosenKinds, chosenRefusal, buildChosen, givenRefusal, buildGiven}
-use Rattle.build.specs.Cells.{Builds, chosenBuilds, givenBuilds, Room, withCells, Accepts, Enough, Wider, used, LeastCells}
+use Rattle.build.specs.Build.{rowsShare, Outcome, caresFrom, placingOf, outcome, chosenKinds, chosenRefusal, buildChosen, givenRefusal, buildGiven}
+use Rattle.build.specs.Cells.{Builds, chosenBuilds, givenBuilds, Places, Unplaced, Room, withCells, Accepts, Enough, Wider, used, LeastCells}
 use Rattle.build.proofs.Refusing.Ladder.{pass}
 use Rattle.build.proofs.Holding.Passed.{Passed, chosen-passed, given-passed}
 use Rattle.build.proofs.Holding.Ends.{placing-cells, Comes, early, whole, stuck, over, comes, outcome-accepted, accepted-outcome}
@@ -79,6 +80,27 @@ module _ (n n1 : ℕ) (ks : List Kind) (vs : List ℕ) (refusal : ℕ → Tables
         fewer = λ m b t' l p. true≢false (sym (placed-within b _ _ _ (p .1)) ∙ s .fewer m l);
         refused = λ m b t' l z. s .refused m l (outcome-accepted n n1 ks m b vs t' (refusal m t') z .placed);
       }
+
+  outcome-unplaced : Unplaced B
+  unfolding placingOf
+  outcome-unplaced cells a t h = go (comes n n1 ks cells a vs t (refusal cells t))
+    where
+      number : Outcome → ℕ
+      number o = o .built .refusal
+
+      row : Outcome → ℕ
+      row o = o .built .place
+
+      unplaced : (r q : ℕ) → r ≡ q → placesWithin a (placingOf n1 ks cells vs) q ≡ false → Places B cells a t r → ⊥
+      unplaced r q e f p = true≢false (sym (p .1) ∙ ap (placesWithin a (placingOf n1 ks cells vs)) e ∙ f)
+
+      go : Comes n n1 ks cells a vs t (refusal cells t) → Places B cells a t (B .outcome cells a t .built .place) → ⊥
+      go (early l e) = absurd (omega (arith, ap number e, first cells t))
+      go (whole z q e) = absurd (omega (arith, ap number e))
+      go (stuck z r tried needed q e) =
+          unplaced _ r (ap row e)
+          (stuck-out a (caresFrom 1 n1 ks vs) (replicate (2 ^ n1) 0) (replicate cells 0) r tried needed (within-stuck a (placingOf n1 ks cells vs) r tried needed q .is))
+      go (over z r q e) = unplaced _ r (ap row e) (over-out a (caresFrom 1 n1 ks vs) (replicate (2 ^ n1) 0) (replicate cells 0) r q)
 
   outcome-wider : (cells a : ℕ) (t : Tables) → Accepts B cells a t → Wider B cells a t
   unfolding recordOf
@@ -154,6 +176,11 @@ module _ (n degree : ℕ) (vs : List ℕ) where
   unfolding buildChosen
   chosen-enough cells a t = outcome-enough n n1 ks vs r chosen-early chosen-room chosen-some cells a t
 
+  -- refused by 13 or 41: the row is not placed
+  pub chosen-unplaced : Unplaced (chosenBuilds n degree vs)
+  unfolding buildChosen
+  chosen-unplaced = outcome-unplaced n n1 ks vs r chosen-early chosen-room chosen-some
+
   -- accepted: accepted with more cells, and the same but for G
   pub chosen-wider : (cells a : ℕ) (t : Tables) → buildChosen n degree cells a vs t .built .refusal ≡ 0 → Wider (chosenBuilds n degree vs) cells a t
   unfolding buildChosen
@@ -196,6 +223,10 @@ module _ (n : ℕ) (variables : List Variable) (p n1 : ℕ) (vs : List ℕ) wher
       → Enough (givenBuilds n variables p n1 vs) cells t (buildGiven n variables p n1 cells a vs t .built .place) (buildGiven n variables p n1 cells a vs t .built .needed)
   unfolding buildGiven
   given-enough cells a t = outcome-enough n n1 gs vs s given-early given-room given-some cells a t
+
+  pub given-unplaced : Unplaced (givenBuilds n variables p n1 vs)
+  unfolding buildGiven
+  given-unplaced = outcome-unplaced n n1 gs vs s given-early given-room given-some
 
   pub given-wider : (cells a : ℕ) (t : Tables) → buildGiven n variables p n1 cells a vs t .built .refusal ≡ 0 → Wider (givenBuilds n variables p n1 vs) cells a t
   unfolding buildGiven
