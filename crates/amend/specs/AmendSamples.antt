@@ -1,4 +1,4 @@
--- Two vectors added to the unit of SCOPE 15.3 with 9 cells, and one that is refused behind another, computed.
+-- A vector added to the unit of SCOPE 15.3 with 8 cells; a key that is registered behind one that is added; and a word that is no key, computed.
 use mathlib.Core.Path.{_≡_, refl}
 use mathlib.Core.List.{[], _∷_}
 use Rattle.record.specs.Tables.{lent}
