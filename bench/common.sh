@@ -18,6 +18,7 @@ mkdir -p "$out"
 
 rt=$(command -v rt) || stop 'rt, the Rattle toolchain, is not on the path'
 machine=$(uname -m)
+kit=${RATTLE_HOME:-$(dirname "$(dirname "$(readlink -f "$rt")")")}
 if [ "$machine" = x86_64 ]; then
     compiler=$(command -v cc || command -v gcc) || stop 'no C compiler: install the Debian package gcc'
     objdump=$(command -v objdump) || stop 'no objdump: install the Debian package binutils'
@@ -26,7 +27,6 @@ if [ "$machine" = x86_64 ]; then
 else
     compiler=$(command -v x86_64-linux-gnu-gcc) || stop 'x86_64-linux-gnu-gcc is missing: install the Debian package gcc-x86-64-linux-gnu'
     objdump=$(command -v x86_64-linux-gnu-objdump) || stop 'x86_64-linux-gnu-objdump is missing: install the Debian package binutils-x86-64-linux-gnu'
-    kit=${RATTLE_HOME:-$(dirname "$(dirname "$(readlink -f "$rt")")")}
     emulator=$kit/on/$machine/toolchain/bin/qemu-x86_64
     [ -x "$emulator" ] || stop "no emulator at $emulator"
     static=-static

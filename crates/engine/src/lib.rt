@@ -10,6 +10,11 @@ ghost use Rattle.engine.specs.Calls.{keysCall, profileCall};
 use bridge::flat::WORDS;
 use profiles::Room;
 
+// A refusal is below the first, and the second in an answer says the brand's slab.
+const REFUSALS: u64 = 256;
+
+const BRAND: u64 = 0x1_0000_0000;
+
 // A refusal and two numbers in one word.
 fn answer(refusal: u8, number: usize, above: usize) -> u64
     requires { ⌜ (number < 65536) × (above < 65536) ⌝ }
@@ -39,8 +44,8 @@ pub extern "C" fn igu_profiles_build(
     answer(built.refusal, built.place, built.needed)
 }
 
-// Where a key's profile is: the refusal, 256 times its number, and 2^32 for the brand's slab. As `profiles::find`, with the records read as `bridge` reads
-// them for a lookup.
+// Where a key's profile is: the refusal, 256 times its number, and 2^32 for the brand's slab. As `profiles::find`, by the lookup for C: what it answers is
+// the house's answer as it stands, and the brand's but for the slab. Its 0 is a key that the brand's unit does not know.
 #[no_mangle]
 pub extern "C" fn igu_profile(
     brand: &[u64; WORDS],
@@ -75,16 +80,12 @@ pub extern "C" fn igu_profile(
         return answer(asked.refusal, 0, 0);
     }
     let x = asked.word;
-    let first = bridge::find(brand, brand_h, brand_g, brand_aux, x);
-    if first.refusal != 0 {
-        return answer(first.refusal, 0, 0);
+    let first = bridge::igu_lookup(brand, brand_h, brand_g, brand_aux, x);
+    if first == 0 {
+        return bridge::igu_lookup(house, house_h, house_g, house_aux, x);
     }
-    if first.index != 0 {
-        return answer(0, first.index, 1);
+    if first % REFUSALS != 0 {
+        return first;
     }
-    let second = bridge::find(house, house_h, house_g, house_aux, x);
-    if second.refusal != 0 {
-        return answer(second.refusal, 0, 0);
-    }
-    answer(0, second.index, 0)
+    first + BRAND
 }

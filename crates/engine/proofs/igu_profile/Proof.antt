@@ -5,8 +5,7 @@ use lib.ListN.{length, getD}
 use Rattle.record.specs.Tables.{lent}
 use Rattle.profiles.specs.Key.{keyOf}
 use Rattle.profiles.specs.Place.{askedOf}
-use Rattle.bridge.proofs.Answers.{index-fits}
-use Rattle.engine.proofs.Answers.{call-unasked, call-refused, call-brand, call-house-refused, call-house}
+use Rattle.engine.proofs.Answers.{lookup-fits, call-unasked, call-refused, call-brand, call-house}
 use borrow.Author.Needs.{needs}
 use Rattle.engine.proofs.igu_profile.Statement.{statement}
 use Rattle.engine.proofs.igu_profile.Tie as tie
@@ -28,33 +27,24 @@ returns c =
 
 returns-2 : tie.Need-returns-2
 returns-2 c =
-    let s = c .before .before .before .before .before .before .before .before .before .before .before .before .before .before .before .before .before .before .before .args in
-    call-refused (s .brand .now) (lent (s .brand-h .now) (s .brand-g .now) (s .brand-aux .now)) (s .brand-slab .now) (s .brand-size) (s .house .now) (lent (s .house-h .now) (s .house-g .now) (s .house-aux .now))
-    (s .house-slab .now) (s .house-size) (keyOf (s .key .now)) _ (asks (c .before .before .before .before .before .before)) (c .before .before .before .before .if1 .left) _ (c .before .before .before .find .ensures) _ (c .before .if2 .taken) (c .answer2 .ensures)
-
-answer-requires-3 : tie.Need-answer-requires-3
-answer-requires-3 c κs = (index-fits _ _ _ _ (c .before .before .before .before .find .ensures), omega arith)
+    let s = c .before .before .before .before .before .before .before .before .before .before .before .before .before .before .before .before .before .before .args in
+    call-house (s .brand .now) (lent (s .brand-h .now) (s .brand-g .now) (s .brand-aux .now)) (s .brand-slab .now) (s .brand-size) (s .house .now) (lent (s .house-h .now) (s .house-g .now) (s .house-aux .now))
+    (s .house-slab .now) (s .house-size) (keyOf (s .key .now)) _ (asks (c .before .before .before .before .before)) (c .before .before .before .if1 .left) _ (c .before .before .igu-lookup .ensures) (c .before .if2 .taken) _ (c .igu-lookup2 .ensures)
 
 returns-3 : tie.Need-returns-3
 returns-3 c =
-    let s = c .before .before .before .before .before .before .before .before .before .before .before .before .before .before .before .before .before .before .before .before .before .args in
-    call-brand (s .brand .now) (lent (s .brand-h .now) (s .brand-g .now) (s .brand-aux .now)) (s .brand-slab .now) (s .brand-size) (s .house .now) (lent (s .house-h .now) (s .house-g .now) (s .house-aux .now))
-    (s .house-slab .now) (s .house-size) (keyOf (s .key .now)) _ (asks (c .before .before .before .before .before .before .before .before)) (c .before .before .before .before .before .before .if1 .left) _ (c .before .before .before .before .before .find .ensures) _ (c .before .before .before .if2 .left) (c .before .if3 .taken) (c .answer3 .ensures)
+    let s = c .before .before .before .before .before .before .before .before .before .before .before .before .before .before .before .before .before .before .args in
+    call-refused (s .brand .now) (lent (s .brand-h .now) (s .brand-g .now) (s .brand-aux .now)) (s .brand-slab .now) (s .brand-size) (s .house .now) (lent (s .house-h .now) (s .house-g .now) (s .house-aux .now))
+    (s .house-slab .now) (s .house-size) (keyOf (s .key .now)) _ (asks (c .before .before .before .before .before)) (c .before .before .before .if1 .left) _ (c .before .before .igu-lookup .ensures) (c .if3 .taken)
+
+add-result : tie.Need-add-result
+add-result c = omega (arith, lookup-fits _ _ _ _ (c .before .before .igu-lookup .ensures))
 
 returns-4 : tie.Need-returns-4
 returns-4 c =
-    let s = c .before .before .before .before .before .before .before .before .before .before .before .before .before .before .before .before .before .before .before .before .before .before .before .before .args in
-    call-house-refused (s .brand .now) (lent (s .brand-h .now) (s .brand-g .now) (s .brand-aux .now)) (s .brand-slab .now) (s .brand-size) (s .house .now) (lent (s .house-h .now) (s .house-g .now) (s .house-aux .now))
-    (s .house-slab .now) (s .house-size) (keyOf (s .key .now)) _ (asks (c .before .before .before .before .before .before .before .before .before .before .before)) (c .before .before .before .before .before .before .before .before .before .if1 .left) _ (c .before .before .before .before .before .before .before .before .find .ensures) (c .before .before .before .before .before .before .if2 .left) (c .before .before .before .before .if3 .left) _ (c .before .before .before .find2 .ensures) _ (c .before .if4 .taken) (c .answer4 .ensures)
-
-answer-requires-5 : tie.Need-answer-requires-5
-answer-requires-5 c κs = (index-fits _ _ _ _ (c .before .before .find2 .ensures), omega arith)
-
-returns-5 : tie.Need-returns-5
-returns-5 c =
-    let s = c .before .before .before .before .before .before .before .before .before .before .before .before .before .before .before .before .before .before .before .before .before .before .before .before .args in
-    call-house (s .brand .now) (lent (s .brand-h .now) (s .brand-g .now) (s .brand-aux .now)) (s .brand-slab .now) (s .brand-size) (s .house .now) (lent (s .house-h .now) (s .house-g .now) (s .house-aux .now))
-    (s .house-slab .now) (s .house-size) (keyOf (s .key .now)) _ (asks (c .before .before .before .before .before .before .before .before .before .before .before)) (c .before .before .before .before .before .before .before .before .before .if1 .left) _ (c .before .before .before .before .before .before .before .before .find .ensures) (c .before .before .before .before .before .before .if2 .left) (c .before .before .before .before .if3 .left) _ (c .before .before .before .find2 .ensures) _ (c .before .if4 .left) (c .answer5 .ensures)
+    let s = c .before .before .before .before .before .before .before .before .before .before .before .before .before .before .before .before .before .before .args in
+    call-brand (s .brand .now) (lent (s .brand-h .now) (s .brand-g .now) (s .brand-aux .now)) (s .brand-slab .now) (s .brand-size) (s .house .now) (lent (s .house-h .now) (s .house-g .now) (s .house-aux .now))
+    (s .house-slab .now) (s .house-size) (keyOf (s .key .now)) _ (asks (c .before .before .before .before .before)) (c .before .before .before .if1 .left) _ (c .before .before .igu-lookup .ensures) (c .before .if2 .left) (c .if3 .left)
 
 pub igu-profile-spec : {M : Type 1} → statement M
 igu-profile-spec =
@@ -69,10 +59,6 @@ igu-profile-spec =
     (λ c κs. search needs)
     (λ c κs. search needs)
     returns-2
-    answer-requires-3
     returns-3
-    (λ c κs. search needs)
-    (λ c κs. search needs)
-    returns-4
-    answer-requires-5
-    returns-5)
+    add-result
+    returns-4)
