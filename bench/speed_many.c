@@ -52,12 +52,11 @@ static void build_list(void)
 }
 
 /* Other keys than the list's, but for an accident, which the scan sees. */
-static void draw_keys(enum order order)
+static void draw_keys(struct random *r, enum order order)
 {
-    struct random r = {SEED};
     for (size_t i = 0; i < count; i++) {
-        bool registered = order == IN_TURN ? i % 2 == 0 : one_in(&r, 2);
-        keys[i] = !registered ? random_key(&r) : vectors[order == IN_TURN ? i / 2 % K : random_below(&r, K)];
+        bool registered = order == IN_TURN ? i % 2 == 0 : one_in(r, 2);
+        keys[i] = !registered ? random_key(r) : vectors[order == IN_TURN ? i / 2 % K : random_below(r, K)];
         wanted[i] = (uint16_t)scan_lookup(vectors, K, keys[i]);
     }
 }
@@ -106,15 +105,19 @@ static double time_of(void (*way)(void))
     return end - start;
 }
 
-static void time_keys(double *one, int ways_there)
+/* Each round has new keys: with the same ones a processor learns which branches a few thousand keys take. */
+static void time_keys(enum order order, double *one, int ways_there)
 {
+    struct random r = {SEED};
     static void (*const ways[WAYS])(void) = {by_many, by_single, by_hash, by_binary, by_bmz};
     static double times[WAYS][ROUNDS_AT_MOST];
     size_t rounds = KEYS_IN_ALL / count;
     rounds = rounds < ROUNDS_AT_MOST ? rounds : ROUNDS_AT_MOST;
-    for (size_t round = 0; round < rounds; round++)
+    for (size_t round = 0; round < rounds; round++) {
+        draw_keys(&r, order);
         for (int way = 0; way < ways_there; way++)
             times[way][round] = time_of(ways[way]);
+    }
     for (int way = 0; way < ways_there; way++)
         one[way] = median(times[way], rounds) / (double)count;
 }
@@ -146,8 +149,7 @@ void time_many(void)
         for (int order = 0; order < ORDERS; order++) {
             double one[WAYS];
             count = sizes[at];
-            draw_keys(order);
-            time_keys(one, ways_there);
+            time_keys(order, one, ways_there);
             print_row(order, one, ways_there);
         }
 }

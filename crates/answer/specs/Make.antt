@@ -1,8 +1,9 @@
 -- What a text leaves: whether it is a list, and if so what the build of its unit leaves (SCOPE 14.1 to 14.4).
-use Prim.Native.Nat.{ℕ, _-_, _^_}
+use Prim.Native.Nat.{ℕ, suc, _-_, _^_}
 use mathlib.Core.Bool.{Bool, true, false}
 use mathlib.Core.List.{List}
 use lib.ListN.{drop, replicate}
+use Rattle.vectors.specs.Bounds.{maxCells, maxRows}
 use Rattle.record.specs.Record.{blankRecord}
 use Rattle.record.specs.Tables.{Tables, lent}
 use Rattle.build.specs.declared.Built.{Built}
@@ -12,7 +13,7 @@ use Rattle.answer.specs.declared.Made.{Made}
 
 -- tables as long as any unit needs, so that refusals 5 and 12 never come
 abbrev pub roomy : Tables
-roomy = lent (replicate 4096 0) (replicate 8192 0) (replicate 1025 0)
+roomy = lent (replicate maxRows 0) (replicate maxCells 0) (replicate (suc maxListed) 0)
 
 -- SCOPE 14.20: the tries that the program allows
 abbrev pub programAllowance : ℕ

@@ -5,10 +5,16 @@ ghost use Rattle.print.specs.Print.{printed, fitted};
 ghost use Rattle.answer.specs.Make.{noBuild, making, makeOf};
 ghost use Rattle.answer.specs.Answer.{answerOf};
 ghost use Rattle.answer.specs.Inner.Outcome.{printBuilt};
+use input::MAX_LISTED;
 use unit::Built;
+use vectors::MAX_CELLS;
+use vectors::MAX_ROWS;
 
 // Bytes that every answer fits into (`pageSize`).
 pub const PAGE: usize = 131072;
+
+// The words of AUX that any list of a text needs (`roomy`).
+pub const AUX_WORDS: usize = MAX_LISTED + 1;
 
 // The tries that the program allows (`programAllowance`).
 pub const ALLOWANCE: u64 = 0xffff_ffff;
@@ -35,7 +41,7 @@ fn no_list() -> Built
 pub fn make(text: &[u8], h: &mut [u16], g: &mut [u16], aux: &mut [u64]) -> Made
     ensures { λ r. ⌜ making r (now (h .exit)) (now (g .exit)) (now (aux .exit)) ≡ makeOf (now (text .entry)) (lent (now (h .entry)) (now (g .entry)) (now (aux .entry))) ⌝ }
 {
-    let mut vectors = [0u64; 1024];
+    let mut vectors = [0u64; MAX_LISTED];
     let list = input::read(text, &mut vectors);
     if !list.good {
         let built = no_list();
@@ -68,9 +74,9 @@ fn print_built(built: Built, h: &[u16], g: &[u16], aux: &[u64], out: &mut [u8]) 
 pub fn answer(text: &[u8], out: &mut [u8]) -> usize
     ensures { λ r. ⌜ printed r (now (out .exit)) ≡ fitted (answerOf (now (text .entry))) (now (out .entry)) ⌝ }
 {
-    let mut h = [0u16; 4096];
-    let mut g = [0u16; 8192];
-    let mut aux = [0u64; 1025];
+    let mut h = [0u16; MAX_ROWS];
+    let mut g = [0u16; MAX_CELLS];
+    let mut aux = [0u64; AUX_WORDS];
     let made = make(text, &mut h, &mut g, &mut aux);
     if !made.good {
         return print::text(b"input\n", out);

@@ -3,8 +3,11 @@ ghost use mathlib.Core.Path.{_≡_};
 ghost use Rattle.build.specs.Cells as spec;
 ghost use Rattle.print.specs.Print.{printed, fitted};
 ghost use Rattle.cells.specs.Cells.{fewest, cellsOf};
+use answer::AUX_WORDS;
+use input::MAX_LISTED;
 use unit::Built;
 use vectors::MAX_CELLS;
+use vectors::MAX_ROWS;
 
 // How many cells there are up to the last that is taken.
 fn used(g: &[u16]) -> usize
@@ -36,14 +39,14 @@ fn print_fewest(built: Built, g: &[u16], out: &mut [u8]) -> usize
 pub fn cells(text: &[u8], out: &mut [u8]) -> usize
     ensures { λ r. ⌜ printed r (now (out .exit)) ≡ fitted (cellsOf (now (text .entry))) (now (out .entry)) ⌝ }
 {
-    let mut vectors = [0u64; 1024];
+    let mut vectors = [0u64; MAX_LISTED];
     let list = input::read(text, &mut vectors);
     if !list.good {
         return print::text(b"input\n", out);
     }
-    let mut h = [0u16; 4096];
-    let mut g = [0u16; 8192];
-    let mut aux = [0u64; 1025];
+    let mut h = [0u16; MAX_ROWS];
+    let mut g = [0u16; MAX_CELLS];
+    let mut aux = [0u64; AUX_WORDS];
     let built = unit::build_chosen(
         list.n,
         list.degree,

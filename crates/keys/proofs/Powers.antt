@@ -6,26 +6,26 @@ use lib.Pow.{pow-pos}
 use mathlib.Core.Path.{_≡_, refl, sym, ap, _∙_}
 use borrow.Author.Tests.{lt-ltb, le-ltb}
 use Rattle.input.specs.Input.{maxListed}
-use Rattle.keys.specs.Keys.{powerFrom, cellsFor, cellsBy}
+use Rattle.keys.specs.Keys.{doublings, powerFrom, cellsFor, cellsBy}
 
 -- so many doublings are left
 pub record Doubling (k cells : ℕ) : Type 0 where
   pub left : ℕ
   pub some : 0 < cells
-  pub enough : cells * 2 ^ left ≡ 4096
+  pub enough : cells * 2 ^ left ≡ 2 ^ doublings
   pub is : cellsFor k ≡ powerFrom left cells (2 * k)
 
 module _ (k : ℕ) (few : k ≤ maxListed) where
   pub doubling-none : Doubling k 1
   unfolding cellsFor
-  doubling-none = record { left = 12; some = omega arith; enough = refl; is = refl }
+  doubling-none = record { left = doublings; some = omega arith; enough = refl; is = refl }
 
   module _ (cells : ℕ) (w : Doubling k cells) where
     pub doubling-more : cells < 2 * k → Doubling k (cells * 2)
     unfolding powerFrom
     doubling-more h = go (w .left) (w .enough) (w .is)
       where
-        go : (l : ℕ) → cells * 2 ^ l ≡ 4096 → cellsFor k ≡ powerFrom l cells (2 * k) → Doubling k (cells * 2)
+        go : (l : ℕ) → cells * 2 ^ l ≡ 2 ^ doublings → cellsFor k ≡ powerFrom l cells (2 * k) → Doubling k (cells * 2)
         go zero e i = absurd (omega arith)
         go (suc l) e i =
             record {
@@ -44,10 +44,10 @@ module _ (k : ℕ) (few : k ≤ maxListed) where
         go (suc l) i = sym (i ∙ rw (le-ltb cells (2 * k) h, powerFrom))
 
     -- and no more cells than there may be
-    pub doubling-low : cells ≤ 4096
+    pub doubling-low : cells ≤ 2 ^ doublings
     doubling-low = go (w .left) (w .enough)
       where
-        go : (l : ℕ) → cells * 2 ^ l ≡ 4096 → cells ≤ 4096
+        go : (l : ℕ) → cells * 2 ^ l ≡ 2 ^ doublings → cells ≤ 2 ^ doublings
         go l e = le-trans (le-mul-of-pos-right cells (pow-pos l)) (le-of-eq e)
 
 -- ---- the cells that are asked for

@@ -42,10 +42,14 @@ unfoldable pub powerFrom : ℕ → ℕ → ℕ → ℕ
 powerFrom zero p m = p
 powerFrom (suc d) p m = elim (ltb p m) [ true ↦ powerFrom d (2 * p) m | false ↦ p ]
 
+-- so many doublings of 1 are enough for twice the longest list
+abbrev pub doublings : ℕ
+doublings = 12
+
 -- the cells for so many keys: the least power of two that is at least twice as many
 unfoldable pub cellsFor : ℕ → ℕ
 unfolding powerFrom
-cellsFor k = powerFrom 12 1 (2 * k)
+cellsFor k = powerFrom doublings 1 (2 * k)
 
 -- the cells that are asked for, or those for so many keys where none are
 unfoldable pub cellsBy : ℕ → ℕ → ℕ

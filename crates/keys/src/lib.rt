@@ -9,8 +9,11 @@ ghost use Rattle.input.specs.Input.{maxText, maxListed};
 ghost use Rattle.print.specs.Print.{printed, fitted};
 ghost use Rattle.keys.specs.Keys.{cellsFor, cellsBy, linesText, keysText, askedOf, keysOf};
 ghost use Rattle.keys.specs.Inner.{ReadAs};
+use answer::AUX_WORDS;
 use input::MAX_LISTED;
 use input::MAX_TEXT;
+use vectors::MAX_CELLS;
+use vectors::MAX_ROWS;
 
 // The bits of a packed key.
 const KEY_BITS: usize = 56;
@@ -110,9 +113,9 @@ fn pack_lines(degree: usize, cells: usize, lines: &[u8], out: &mut [u8]) -> usiz
         return print::refused(30, 0, out);
     }
     let count = said.count;
-    let mut h = [0u16; 4096];
-    let mut g = [0u16; 8192];
-    let mut aux = [0u64; 1025];
+    let mut h = [0u16; MAX_ROWS];
+    let mut g = [0u16; MAX_CELLS];
+    let mut aux = [0u64; AUX_WORDS];
     let built = unit::build_chosen(
         KEY_BITS,
         degree,

@@ -3,9 +3,13 @@ ghost use mathlib.Core.Path.{_≡_};
 ghost use Rattle.print.specs.Print.{printed, fitted};
 ghost use Rattle.print.specs.Sentence.{sentence};
 ghost use Rattle.why.specs.Why.{formIn, builtForms, otherForm, faultText, vectorAt, firstEqual, builtText, whyOf};
+use answer::AUX_WORDS;
 use fault::Fault;
 use input::Input;
+use input::MAX_LISTED;
 use unit::Built;
+use vectors::MAX_CELLS;
+use vectors::MAX_ROWS;
 
 // The vector with a number, from 1; 0 where there is none.
 fn vector_at(vectors: &[u64], place: usize) -> u64
@@ -129,15 +133,15 @@ fn say_built(built: Built, list: Input, vectors: &[u64], out: &mut [u8]) -> usiz
 pub fn why(text: &[u8], out: &mut [u8]) -> usize
     ensures { λ r. ⌜ printed r (now (out .exit)) ≡ fitted (whyOf (now (text .entry))) (now (out .entry)) ⌝ }
 {
-    let mut vectors = [0u64; 1024];
+    let mut vectors = [0u64; MAX_LISTED];
     let list = input::read(text, &mut vectors);
     if !list.good {
         let fault = fault::find(text);
         return say_fault(fault, out);
     }
-    let mut h = [0u16; 4096];
-    let mut g = [0u16; 8192];
-    let mut aux = [0u64; 1025];
+    let mut h = [0u16; MAX_ROWS];
+    let mut g = [0u16; MAX_CELLS];
+    let mut aux = [0u64; AUX_WORDS];
     let made = answer::make(text, &mut h, &mut g, &mut aux);
     say_built(made.built, list, &vectors[..list.count], out)
 }

@@ -6,7 +6,10 @@ ghost use Rattle.print.specs.Print.{printed, fitted};
 ghost use Rattle.input.specs.Opens.{opens};
 ghost use Rattle.words.specs.Words.{says as Words·says, addWord, asksFile, ofFile, wordsOf};
 ghost use Rattle.words.specs.Inner.{unitPrinted};
+use answer::AUX_WORDS;
 use unit::Record;
+use vectors::MAX_CELLS;
+use vectors::MAX_ROWS;
 
 // Bytes that everything written fits into (`pageSize`).
 pub const PAGE: usize = answer::PAGE;
@@ -63,9 +66,9 @@ fn from_file(given: &[u8], file: &[u8], out: &mut [u8]) -> usize
     requires { ⌜ asksFile (now given) ≡ true ⌝ }
     ensures { λ r. ⌜ printed r (now (out .exit)) ≡ fitted (ofFile (now (given .entry)) (now (file .entry))) (now (out .entry)) ⌝ }
 {
-    let mut h = [0u16; 4096];
-    let mut g = [0u16; 8192];
-    let mut aux = [0u64; 1025];
+    let mut h = [0u16; MAX_ROWS];
+    let mut g = [0u16; MAX_CELLS];
+    let mut aux = [0u64; AUX_WORDS];
     let loaded = load::read(file, &mut h, &mut g, &mut aux);
     if loaded.refusal != 0 {
         return print::refused(loaded.refusal, loaded.place, out);

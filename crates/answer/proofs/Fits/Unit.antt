@@ -12,7 +12,7 @@ use Rattle.lists.specs.Members.{All}
 use Rattle.lists.proofs.Entries.Members.{all-map}
 use Rattle.lists.proofs.Entries.Alls as alls
 use Rattle.vectors.specs.declared.Kind.{Kind}
-use Rattle.vectors.specs.Bounds.{maxInputs, maxSide}
+use Rattle.vectors.specs.Bounds.{maxInputs, maxSide, maxRows}
 use Rattle.vectors.specs.Variable.{maskOf, rowOf, columnOf}
 use Rattle.vectors.specs.Word.{wordOf}
 use Rattle.vectors.proofs.Words.Laws.{word-lt}
@@ -55,7 +55,7 @@ module _ (n n1 : ℕ) (second : Refusal) (ks : List Kind) (cells : ℕ) (vs : Li
       placed-low (caresFrom 1 n1 ks vs) (2 ^ n1) cells (cares-low (rowOf n1 ks) (columnOf n1 ks) 1 vs (omega (arith, R .list .listed .few))) (R .list .few-cells)
       (length-replicate (2 ^ n1) 0) (length-replicate cells 0)
 
-  rows-low : 2 ^ n1 ≤ 4096
+  rows-low : 2 ^ n1 ≤ maxRows
   rows-low = pow-mono {i = n1} {j = maxSide} (R .split .rows-few)
 
   numbers-low : All (λ x. x < 2 ^ 64) numbers

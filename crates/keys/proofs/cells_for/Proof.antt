@@ -1,6 +1,7 @@
 -- `keys::cells_for` meets its contract. Assumes nothing.
-use Prim.Native.Nat.{_-_}
+use Prim.Native.Nat.{_-_, _^_}
 use native.Mathlib.Omega.{arith}
+use Rattle.keys.specs.Keys.{doublings}
 use Rattle.keys.proofs.Powers.{Doubling, doubling-none, doubling-more, doubling-end}
 use borrow.Author.Needs.{needs}
 use Rattle.keys.proofs.cells_for.Statement.{statement}
@@ -10,7 +11,7 @@ abbrev Inv-loop : tie.InvT-loop
 Inv-loop k cells₀ cells = Doubling k cells
 
 abbrev μ-loop : tie.MeasureT-loop
-μ-loop k cells₀ cells = 4096 - cells
+μ-loop k cells₀ cells = 2 ^ doublings - cells
 
 loop-holds : tie.Need-loop-holds Inv-loop μ-loop
 loop-holds c = doubling-none _ (c .pre)
