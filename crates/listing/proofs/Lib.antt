@@ -1,4 +1,3 @@
-pub mod Gathering
 pub mod Lists
 pub mod Exact
 pub mod Fits

@@ -1,19 +1,27 @@
 -- What is listed of a unit, case by case. Assumes nothing.
-use Prim.Native.Nat.{ℕ, _≤_}
+use Prim.Native.Nat.{ℕ, _+_, _<_}
+use native.Mathlib.Numerals.{add-one}
 use native.Mathlib.Omega.{arith}
-use mathlib.Core.Path.{_≡_, sym, ap, _∙_}
-use mathlib.Core.Bool.{Bool, true, false}
-use mathlib.Core.List.{List, _∷_, _++_}
-use lib.ListN.{length, take}
-use lib.Seq.{take-at}
+use mathlib.Core.Path.{_≡_, refl, sym, ap, _∙_}
+use mathlib.Core.Bool.{true, false}
+use mathlib.Core.List.{List, [], _∷_}
+use lib.ListN.{length, take, drop, set}
+use lib.Seq.{sets, sets-eq, length-sets, take-at}
 use Rattle.record.specs.declared.Record.{Record}
 use Rattle.record.specs.Tables.{Tables}
-use Rattle.record.specs.Formed.{wellFormed}
-use Rattle.recover.specs.Every.{allGiven, vectorsFrom, listed, listIn}
+use Rattle.recover.specs.Every.{listed, listIn, listInto}
+use Rattle.recover.proofs.Every.{listed-length}
+use Rattle.recover.proofs.Stored.{into-listed}
 use Rattle.print.specs.Line.{lines}
 use Rattle.print.specs.Print.{fitted, refusedText, maxFields, linesOf}
 use Rattle.print.proofs.Pages.Fitting.{lines-few}
 use Rattle.listing.specs.Listing.{listText}
+
+-- n and then the entries of a list that was stored behind the first word
+headed : (n : ℕ) (vs old : List ℕ) → length vs < length old → take (length vs + 1) (set (sets old 1 vs) 0 n) ≡ n ∷ vs
+headed n vs [] h = absurd (omega arith)
+headed n vs (w ∷ ws) h =
+    rw (sets-eq vs (w ∷ ws) 1 (omega arith), add-one (length vs)) (ap (λ (l : List ℕ). n ∷ l) (take-at vs (drop (1 + length vs) (w ∷ ws)) (length vs) refl))
 
 module _ (u : Record) (t : Tables) where
   pub list-listed : listed u t ≡ true → lines (u .n ∷ listIn u t) ≡ listText u t
@@ -24,24 +32,20 @@ module _ (u : Record) (t : Tables) where
   unfolding listText
   list-not h = rw (h, listText)
 
-  pub list-unformed : wellFormed u t ≡ false → refusedText 14 0 ≡ listText u t
-  unfolding listed
-  list-unformed h = list-not (rw h)
+  module _ (h : listed u t ≡ true) (old words : List ℕ) (e : words ≡ listInto u t old) where
+    pub words-many : length words ≡ length old
+    words-many = ap length (e ∙ sym (into-listed u t old h)) ∙ length-sets old 1 (listIn u t)
 
-  module _ (m : ℕ) (e : m ≡ u .k) (f : wellFormed u t ≡ true) where
-    given : (b : Bool) → allGiven u t 1 m ≡ b → listed u t ≡ b
-    unfolding listed
-    given b h = rw f (ap (allGiven u t 1) (sym e) ∙ h)
+    words-are : u .k < length old → take (u .k + 1) (set words 0 (u .n)) ≡ u .n ∷ listIn u t
+    words-are l =
+        let q = listed-length u t h in
+        ap (λ (k : ℕ). take (k + 1) (set words 0 (u .n))) (sym q)
+        ∙ ap (λ (ws : List ℕ). take (length (listIn u t) + 1) (set ws 0 (u .n))) (e ∙ sym (into-listed u t old h))
+        ∙ headed (u .n) (listIn u t) old (omega arith)
 
-    pub list-refused : allGiven u t 1 m ≡ false → refusedText 14 0 ≡ listText u t
-    list-refused h = list-not (given false h)
-
-    -- the words that were gathered are printed
-    pub list-printed : (words rest out : List ℕ) (last : ℕ) → length words ≡ last → last ≤ maxFields → allGiven u t 1 m ≡ true → words ≡ u .n ∷ vectorsFrom u t 1 m
-        → linesOf (take last (words ++ rest)) out ≡ fitted (listText u t) out
-    unfolding listIn
-    list-printed words rest out last l few h w =
-        let v : words ≡ u .n ∷ listIn u t = w ∙ ap (λ (k : ℕ). u .n ∷ vectorsFrom u t 1 k) e in
-        ap (λ (xs : List ℕ). linesOf xs out) (take-at words rest last l)
-        ∙ sym (lines-few words out (omega arith))
-        ∙ ap (λ (s : List ℕ). fitted s out) (ap lines v ∙ list-listed (given true h))
+    -- n and the vectors are printed
+    pub list-printed : (out : List ℕ) → u .k < length old → u .k < maxFields → linesOf (take (u .k + 1) (set words 0 (u .n))) out ≡ fitted (listText u t) out
+    list-printed out l few =
+        ap (λ (xs : List ℕ). linesOf xs out) (words-are l)
+        ∙ sym (lines-few (u .n ∷ listIn u t) out (omega (arith, listed-length u t h)))
+        ∙ ap (λ (s : List ℕ). fitted s out) (list-listed h)

@@ -70,6 +70,9 @@ module _ (u : Record) (t : Tables) (L : listed u t ≡ true) where
   unfolding listed
   tests = and-true (wellFormed u t) (allGiven u t 1 (u .k)) L
 
+  pub listed-formed : wellFormed u t ≡ true
+  listed-formed = tests .0
+
   pub listed-length : length (listIn u t) ≡ u .k
   unfolding listIn
   listed-length = vectors-length u t (u .k) 1

@@ -4,3 +4,4 @@ pub mod Exact
 pub mod Firsts
 pub mod Every
 pub mod Giving
+pub mod Stored

@@ -4,6 +4,7 @@ use mathlib.Core.Bool.{Bool, true, false, _&&_}
 use mathlib.Core.List.{List, [], _∷_}
 use lib.Dec.{eqb}
 use lib.ListN.{take}
+use lib.Seq.{sets}
 use Rattle.lists.specs.First.{firstOf}
 use Rattle.vectors.specs.Bounds.{maxWords}
 use Rattle.record.specs.declared.Record.{Record}
@@ -43,3 +44,8 @@ firstsFrom cells i (suc m) = firstHolding cells i ∷ firstsFrom cells (suc i) m
 unfoldable pub firstsIn : Record → Tables → List ℕ → List ℕ
 unfolding sound firstsFrom
 firstsIn u t old = elim (sound u t) [ true ↦ firstsFrom (take (u .cells) (t .g)) 0 maxWords | false ↦ old ]
+
+-- what stands after the call in the words lent for the vectors: the list from word 1 on, the others as before; all as before where the unit is not listed
+unfoldable pub listInto : Record → Tables → List ℕ → List ℕ
+unfolding listed listIn
+listInto u t old = elim (listed u t) [ true ↦ sets old 1 (listIn u t) | false ↦ old ]

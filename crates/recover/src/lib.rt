@@ -1,8 +1,9 @@
-// The vector of an index: its cell is looked for in G, and its row, column and kept inputs fix it. Whether every index has one: in one pass over G and
-// one over AUX.
+// The vector of an index: its cell is looked for in G, and its row, column and kept inputs fix it. Whether every index has one, and all of them: in one
+// pass over G and one over AUX.
 ghost use mathlib.Core.Path.{_≡_};
 ghost use mathlib.Core.Bool.{true};
-ghost use Prim.Native.Nat.{_^_, _≤_};
+ghost use mathlib.Core.List.{List};
+ghost use Prim.Native.Nat.{ℕ, _^_, _≤_};
 ghost use lib.ListN.{length, getD};
 ghost use Rattle.vectors.specs.Bounds.{maxCells, maxWords};
 ghost use Rattle.record.specs.Tables.{lent};
@@ -11,7 +12,7 @@ ghost use Rattle.record.specs.Inner.Formed.{InBounds, RightInputs};
 ghost use Rattle.recover.specs.Recover as spec;
 ghost use Rattle.recover.specs.Recover.{fromCell, firstHolding, firstCell, inChart, recoverOf};
 ghost use Rattle.recover.specs.Every as every;
-ghost use Rattle.recover.specs.Every.{firstsFrom, firstsIn};
+ghost use Rattle.recover.specs.Every.{firstsFrom, firstsIn, listInto};
 ghost use Rattle.recover.specs.Inner.Fixed.{vectorIn};
 use record::Record;
 use span::Found;
@@ -72,15 +73,11 @@ fn fixed(unit: Record, word: u64, column: usize) -> Recovered
     }
 }
 
-// The vector of the index i of a unit that is well formed.
-fn numbered(unit: Record, h: &[u16], g: &[u16], aux: &[u64], i: usize) -> Recovered
-    requires formed { ⌜ wellFormed unit (lent (now h) (now g) (now aux)) ≡ true ⌝ }
-    requires inside { ⌜ i ≤ unit .k ⌝ }
-    ensures { λ r. ⌜ r ≡ fromCell unit (lent (now (h .entry)) (now (g .entry)) (now (aux .entry))) (getD (now (aux .entry)) i 0)
-        (firstCell unit (lent (now (h .entry)) (now (g .entry)) (now (aux .entry))) i) ⌝ }
+// The vector that a word fixes with the cell that has this number, counted from 1; 0 is no cell.
+fn from_cell(unit: Record, h: &[u16], word: u64, number: usize) -> Recovered
+    requires formed { ⌜ InBounds unit × RightInputs unit × (2 ^ unit .n1 ≤ length (now h)) ⌝ }
+    ensures { λ r. ⌜ ((g aux : List ℕ) → wellFormed unit (lent (now (h .entry)) g aux) ≡ true → r ≡ fromCell unit (lent (now (h .entry)) g aux) word number) ⌝ }
 {
-    let word = aux[i];
-    let number = first_cell(&g[..unit.cells], i);
     if number == 0 {
         return with_refusal(14);
     }
@@ -91,6 +88,17 @@ fn numbered(unit: Record, h: &[u16], g: &[u16], aux: &[u64], i: usize) -> Recove
         return with_refusal(14);
     }
     fixed(unit, word, cell - d)
+}
+
+// The vector of the index i of a unit that is well formed.
+fn numbered(unit: Record, h: &[u16], g: &[u16], aux: &[u64], i: usize) -> Recovered
+    requires formed { ⌜ wellFormed unit (lent (now h) (now g) (now aux)) ≡ true ⌝ }
+    requires inside { ⌜ i ≤ unit .k ⌝ }
+    ensures { λ r. ⌜ r ≡ fromCell unit (lent (now (h .entry)) (now (g .entry)) (now (aux .entry))) (getD (now (aux .entry)) i 0)
+        (firstCell unit (lent (now (h .entry)) (now (g .entry)) (now (aux .entry))) i) ⌝ }
+{
+    let number = first_cell(&g[..unit.cells], i);
+    from_cell(unit, h, aux[i], number)
 }
 
 // The registered vector with the index i.
@@ -166,6 +174,30 @@ pub fn listed(
             return false;
         }
         i += 1;
+    }
+    true
+}
+
+// Whether the unit is listed; where it is, word i is the vector of the number i.
+pub fn recover_all(
+    unit: Record,
+    h: &[u16],
+    g: &[u16],
+    aux: &[u64],
+    words: &mut [u64; MAX_WORDS],
+) -> bool
+    ensures { λ r. ⌜ r ≡ every.listed unit (lent (now (h .entry)) (now (g .entry)) (now (aux .entry))) ⌝ }
+    ensures { λ _. ⌜ now (words .exit) ≡ listInto unit (lent (now (h .entry)) (now (g .entry)) (now (aux .entry))) (now (words .entry)) ⌝ }
+{
+    let mut firsts = [0u16; MAX_WORDS];
+    if !listed(unit, h, g, aux, &mut firsts) {
+        return false;
+    }
+    let mut i = 0;
+    while i < unit.k {
+        i += 1;
+        let r = from_cell(unit, h, aux[i], firsts[i] as usize);
+        words[i] = r.vector;
     }
     true
 }
