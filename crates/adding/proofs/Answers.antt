@@ -10,7 +10,7 @@ use Rattle.build.specs.Build.{Outcome, after}
 use Rattle.build.proofs.Places.{placeLimit}
 use Rattle.add.specs.Add.{addOf}
 use Rattle.add.proofs.Places.{add-place}
-use Rattle.bridge.specs.Flat.{flatOf, unitSeen}
+use Rattle.flat.specs.Flat.{flatOf, unitSeen}
 use Rattle.bridge.specs.Calls.{Left, left, answer}
 use Rattle.adding.specs.Calls.{wordsAfter, addedTo, addCall}
 

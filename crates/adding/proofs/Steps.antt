@@ -6,9 +6,6 @@ use mathlib.Core.Bool.{true}
 use mathlib.Core.List.{List, [], _∷_, _++_, map}
 use lib.IntN.{ℤ}
 use lib.ListN.{length, take, length-map}
-use mir.Syntax.{w64}
-use mir.Val.{SFits}
-use Rattle.lists.specs.Members.{All}
 use Rattle.vectors.specs.declared.Kind.{Kind}
 use Rattle.vectors.specs.declared.Variable.{Variable}
 use Rattle.vectors.specs.Bounds.{maxVariables}
@@ -19,10 +16,9 @@ use Rattle.record.specs.declared.Record.{Record}
 use Rattle.record.specs.Record.{markBuilt, markAmended, recordOf, variablesOf, excessOf, kindsIn}
 use Rattle.record.specs.Tables.{Tables}
 use Rattle.record.specs.Formed.{sound}
-use Rattle.record.proofs.Excesses.{excess-fits}
 use Rattle.record.proofs.Formed.{well-formed-facts}
 use Rattle.record.proofs.Marks.{kinds-in}
-use Rattle.record.proofs.Soundness.{Sound, sound-says}
+use Rattle.record.proofs.Soundness.{sound-says}
 use Rattle.build.specs.declared.Refusal.{Refusal}
 use Rattle.build.specs.Build.{Outcome, outcome, placingOf, chosenRefusal, givenRefusal, buildChosen, buildGiven, rowsShare, chosenKinds}
 use Rattle.build.proofs.Holding.Ends.{outcome-accepted}
@@ -35,12 +31,12 @@ use Rattle.add.specs.Add.{amended, addOf}
 use Rattle.add.specs.Made.{Made, standing}
 use Rattle.add.proofs.Adding.Ends.{accepted-record}
 use Rattle.add.proofs.Demand2.{made-stands, made-holds, made-demand-2}
-use Rattle.bridge.specs.Flat.{variableAt, variableWords, allInRange, flatOf, unitAt, unitSeen}
+use Rattle.flat.specs.Flat.{variableAt, flatOf, unitSeen}
+use Rattle.flat.proofs.Carried.{carried}
 use Rattle.bridge.specs.Calls.{Left, left, answer, leftBy, buildCall, givenCall, readCall}
 use Rattle.bridge.specs.Boundary.{Exact}
-use Rattle.bridge.proofs.Answers.{build-left, given-left, seen-read}
-use Rattle.bridge.proofs.Carried.{Carries, variables-carried, carried, carried-range}
-use Rattle.bridge.proofs.Boundary.{variables-many, no-refusal, exact}
+use Rattle.bridge.proofs.Answers.{build-left, given-left}
+use Rattle.bridge.proofs.Boundary.{no-refusal, exact}
 use Rattle.bridge.proofs.Files.{front}
 use Rattle.adding.specs.Calls.{addedTo, addCall}
 use Rattle.adding.specs.Boundary.{fileBytes, ByCalls, ExactByCalls}
@@ -93,40 +89,12 @@ carried-settled u = record-settled (u .mark) (u .n) (u .n1) (u .k) (kindsIn u) (
 
 -- ---- so the record for C carries it
 
-module _ (u : Record) (t : Tables) (h : sound u t ≡ true) (s : Settled u) where
-  S : Sound u t
-  S = sound-says u t h
-
-  variables-are : u .variables ≡ variablesOf (u .n1) (kindsIn u)
-  unfolding recordOf
-  variables-are = ap (λ (v : Record). v .variables) s
-
-  excess-is : u .excess ≡ excessOf (length (kindsIn u)) (u .k)
-  unfolding recordOf
-  excess-is = ap (λ (v : Record). v .excess) s
-
-  few : length (kindsIn u) ≤ maxVariables
-  few = ranges u t h .variables-few
-
-  many : length (u .variables) ≡ maxVariables
-  many = ap length variables-are ∙ variables-many (u .n1) (kindsIn u) few
-
-  fits : SFits w64 (u .excess)
-  fits = subst (SFits w64) (sym excess-is) (excess-fits (length (kindsIn u)) (u .k) (omega (arith, few)) (omega (arith, ranges u t h .vectors-few)))
-
-  all-carried : All Carries (u .variables)
-  all-carried =
-      let w = well-formed-facts u t (S .well-formed) in
-      subst (All Carries) (sym variables-are) (variables-carried (u .n) (u .n1) (kindsIn u) (w .bounds .inputs) (w .inputs .right))
-
-  flat-range : allInRange (variableWords (flatOf u)) ≡ true
-  flat-range = carried-range u many fits all-carried
-
-  flat-back : unitAt (flatOf u) ≡ u
-  flat-back = carried u many fits all-carried
-
-  flat-seen : unitSeen (flatOf u) ≡ u
-  flat-seen = sym (seen-read (flatOf u) flat-range) ∙ flat-back
+flat-seen : (u : Record) (t : Tables) → sound u t ≡ true → Settled u → unitSeen (flatOf u) ≡ u
+flat-seen u t h s =
+    let w = well-formed-facts u t (sound-says u t h .well-formed) in
+    let r = ranges u t h in
+    subst (λ (v : Record). unitSeen (flatOf v) ≡ v) (sym s)
+    (carried (u .mark) (u .n) (u .n1) (u .k) (kindsIn u) (u .cells) (u .tries) (w .bounds .inputs) (w .inputs .right) (r .variables-few) (r .vectors-few))
 
 -- ---- step by step
 
@@ -177,7 +145,7 @@ module _ {n : ℕ} {vs words : List ℕ} {t : Tables} (s : Stood n vs words t) w
   unfolding readCall
   carried-stands target into room e =
       let f : fileBytes words t target ≡ fileOf u t =
-      ap (λ (ws : List ℕ). fileBytes ws t target) (s .words-are) ∙ front u t (flat-range u t is-sound (s .settled)) (flat-back u t is-sound (s .settled)) is-sound target room in
+      ap (λ (ws : List ℕ). fileBytes ws t target) (s .words-are) ∙ front u t (flat-seen u t is-sound (s .settled)) is-sound target room in
       let z : readOf (fileOf u t) into .refusal ≡ 0 = sym (ap (λ (b : List ℕ). readOf b into .refusal) f) ∙ e in
       let w = made-stands (s .made) in
       subst (λ (b : List ℕ). StoodBy n vs (readCall b into)) (sym f)
@@ -199,4 +167,4 @@ exact-by-calls n vs words t c =
     let s = stands c in
     let h : sound (s .unit) t ≡ true = is-sound s in
     subst (λ (ws : List ℕ). Exact n vs (left 0 ws t)) (sym (s .words-are))
-    (exact n vs (standing (s .unit) t) (made-demand-2 n vs (s .unit) t (s .made)) (λ z. (flat-back (s .unit) t h (s .settled), flat-range (s .unit) t h (s .settled))))
+    (exact n vs (standing (s .unit) t) (made-demand-2 n vs (s .unit) t (s .made)) (λ z. flat-seen (s .unit) t h (s .settled)))

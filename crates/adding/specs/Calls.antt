@@ -4,7 +4,7 @@ use mathlib.Core.List.{List}
 use Rattle.record.specs.Tables.{Tables}
 use Rattle.build.specs.Build.{Outcome}
 use Rattle.add.specs.Add.{addOf}
-use Rattle.bridge.specs.Flat.{flatOf, unitSeen}
+use Rattle.flat.specs.Flat.{flatOf, unitSeen}
 use Rattle.bridge.specs.Calls.{Left, left, answer}
 
 -- SCOPE 22.2, 22.5: the record of the amended unit; a refusal leaves its 40 words as they were

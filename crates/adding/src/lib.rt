@@ -1,10 +1,9 @@
-// A vector added to a unit, for C and Rust, over slices and the flat record of crate `bridge`.
+// A vector added to a unit, for C and Rust, over slices and the record of crate `flat`.
 ghost use mathlib.Core.Path.{_≡_};
 ghost use Rattle.record.specs.Tables.{lent};
 ghost use Rattle.bridge.specs.Calls.{left};
 ghost use Rattle.adding.specs.Calls.{addCall};
-use bridge::flat;
-use bridge::flat::WORDS;
+use flat::WORDS;
 
 // The vector x added to the unit. The answer is the refusal and 256 times the place; a refusal leaves every word as it was.
 #[no_mangle]

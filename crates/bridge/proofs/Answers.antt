@@ -10,16 +10,16 @@ use Rattle.build.specs.declared.Built.{Built}
 use Rattle.lookup.specs.declared.Found.{Found}
 use Rattle.recover.specs.declared.Recovered.{Recovered}
 use Rattle.record.specs.declared.Record.{Record}
-use Rattle.record.specs.Record.{blankRecord}
 use Rattle.record.specs.Tables.{Tables, lent}
 use Rattle.build.specs.Build.{Outcome, after, buildChosen, buildGiven}
 use Rattle.lookup.specs.Lookup.{notFound, lookupOf}
 use Rattle.recover.specs.Recover.{notRecovered, recoverOf}
 use Rattle.build.specs.Cells.{neededLimit}
 use Rattle.build.proofs.Places.{placeLimit}
-use Rattle.record.specs.Formed.{wellFormed}
+use Rattle.record.specs.Formed.{wellFormed, sound}
 use Rattle.lookup.proofs.Indices.{found-index}
 use Rattle.lookup.proofs.Lookups.{lookup-unformed}
+use Rattle.recover.proofs.Recovery.{recover-unformed}
 use Rattle.many.specs.declared.Many.{Many}
 use Rattle.many.specs.Lookups as many
 use Rattle.many.specs.Lookups.{lookupMany}
@@ -27,12 +27,12 @@ use Rattle.many.proofs.Keys.{many-same}
 use Rattle.file.specs.declared.Written.{Written}
 use Rattle.file.specs.Write as file
 use Rattle.file.specs.Write.{writeOf}
-use Rattle.file.proofs.Outcomes.{written-few}
+use Rattle.file.proofs.Outcomes.{written-few, write-unsound}
 use Rattle.file.specs.Read.{Reading, readOf}
 use Rattle.load.specs.declared.Loaded.{Loaded}
 use Rattle.load.specs.Load as load
-use Rattle.bridge.specs.Flat.{variableAt, flatOf, variableWords, unitAt, allInRange, unreadable, unitSeen}
-use Rattle.bridge.specs.Calls.{answer, builtAnswer, left, leftBy, buildCall, givenCall, foundIn, recoveredIn, lookupCall, indexed, placeBits, manyCall, Filed, filed, filedBy, writeCall, readCall}
+use Rattle.flat.specs.Flat.{variableAt, flatOf, variableWords, unitAt, allInRange, unreadable, unitSeen}
+use Rattle.bridge.specs.Calls.{answer, builtAnswer, left, leftBy, buildCall, givenCall, foundIn, recoveredIn, lookupCall, indexed, placeBits, manyCall, filed, filedBy, writeCall, readCall}
 
 -- ---- the builds
 
@@ -52,69 +52,38 @@ pub given-left : (n p n1 cells allowance : ℕ) (variables : List ℕ) (given : 
 unfolding givenCall
 given-left n p n1 cells allowance variables given vs t e = ap (λ (l : List Variable). leftBy (buildGiven n l p n1 cells allowance vs t)) e
 
--- ---- lookup and recovery
+-- ---- lookup and recovery, by the unit of any record
 
 module _ (words : List ℕ) (t : Tables) (x : ℕ) where
-  abbrev foundBy : Bool → Found
-  foundBy b = cond b (lookupOf (unitAt words) t x) (notFound 14)
+  pub seen-found : lookupOf (unitSeen words) t x ≡ foundIn words t x
+  unfolding unitSeen foundIn wellFormed
+  seen-found = go (allInRange (variableWords words))
+    where
+      go : (b : Bool) → lookupOf (cond b (unitAt words) (unreadable (getD words 3 0))) t x ≡ cond b (lookupOf (unitAt words) t x) (notFound 14)
+      go true = refl
+      go false = sym (lookup-unformed (unreadable (getD words 3 0)) t x refl)
 
-  abbrev recoveredBy : Bool → Recovered
-  recoveredBy b = cond b (recoverOf (unitAt words) t x) (notRecovered 14)
-
-  pub found-unread : allInRange (variableWords words) ≡ false → notFound 14 ≡ foundIn words t x
-  unfolding foundIn
-  found-unread e = sym (ap foundBy e)
-
-  pub found-read : (u : Record) (f : Found) → allInRange (variableWords words) ≡ true → u ≡ unitAt words → f ≡ lookupOf u t x → f ≡ foundIn words t x
-  unfolding foundIn
-  found-read u f e v l = l ∙ ap (λ (u : Record). lookupOf u t x) v ∙ sym (ap foundBy e)
+  pub found-by : (u : Record) (f : Found) → u ≡ unitSeen words → f ≡ lookupOf u t x → f ≡ foundIn words t x
+  found-by u f v l = l ∙ ap (λ (u : Record). lookupOf u t x) v ∙ seen-found
 
   pub found-called : (f : Found) (a : ℕ) → f ≡ foundIn words t x → a ≡ answer (f .refusal) (f .index) → a ≡ lookupCall words t x
   unfolding lookupCall
   found-called f a e i = i ∙ ap (λ (f : Found). answer (f .refusal) (f .index)) e
 
-  pub recovered-unread : allInRange (variableWords words) ≡ false → notRecovered 14 ≡ recoveredIn words t x
-  unfolding recoveredIn
-  recovered-unread e = sym (ap recoveredBy e)
+  pub unread-called : allInRange (variableWords words) ≡ false → 14 ≡ lookupCall words t x
+  unfolding foundIn
+  unread-called e = found-called (notFound 14) 14 (sym (ap (λ (b : Bool). cond b (lookupOf (unitAt words) t x) (notFound 14)) e)) refl
 
-  pub recovered-read : (u : Record) (r : Recovered) → allInRange (variableWords words) ≡ true → u ≡ unitAt words → r ≡ recoverOf u t x → r ≡ recoveredIn words t x
-  unfolding recoveredIn
-  recovered-read u r e v l = l ∙ ap (λ (u : Record). recoverOf u t x) v ∙ sym (ap recoveredBy e)
+  pub recovered-by : (u : Record) (r : Recovered) → u ≡ unitSeen words → r ≡ recoverOf u t x → r ≡ recoveredIn words t x
+  unfolding unitSeen recoveredIn wellFormed
+  recovered-by u r v l = l ∙ ap (λ (u : Record). recoverOf u t x) v ∙ go (allInRange (variableWords words))
+    where
+      go : (b : Bool) → recoverOf (cond b (unitAt words) (unreadable (getD words 3 0))) t x ≡ cond b (recoverOf (unitAt words) t x) (notRecovered 14)
+      go true = refl
+      go false = sym (recover-unformed (unreadable (getD words 3 0)) t x refl)
 
--- ---- a unit as any record says it
-
--- lookup by it is the call's
-pub seen-found : (words : List ℕ) (t : Tables) (x : ℕ) → lookupOf (unitSeen words) t x ≡ foundIn words t x
-unfolding unitSeen foundIn wellFormed
-seen-found words t x = go (allInRange (variableWords words))
-  where
-    go : (b : Bool) → lookupOf (cond b (unitAt words) (unreadable (getD words 3 0))) t x ≡ cond b (lookupOf (unitAt words) t x) (notFound 14)
-    go true = refl
-    go false = sym (lookup-unformed (unreadable (getD words 3 0)) t x refl)
-
-pub seen-read : (words : List ℕ) → allInRange (variableWords words) ≡ true → unitAt words ≡ unitSeen words
-unfolding unitSeen
-seen-read words e = rw e
-
--- the blank record with another k
-abbrev keyed : Record → ℕ → Record
-keyed b k =
-    record { n = b .n; p = b .p; n1 = b .n1; k = k; cells = b .cells; kept = b .kept; tries = b .tries; excess = b .excess; variables = b .variables; mark = b .mark }
-
-pub seen-unread : (words : List ℕ) (b : Record) → allInRange (variableWords words) ≡ false → b ≡ blankRecord → keyed b (getD words 3 0) ≡ unitSeen words
-unfolding unitSeen
-seen-unread words b e f = rw e (ap (λ (b : Record). keyed b (getD words 3 0)) f)
-
-pub seen-keys : (words : List ℕ) → unitSeen words .k ≡ getD words 3 0
-unfolding unitSeen unitAt
-seen-keys words = go (allInRange (variableWords words))
-  where
-    go : (b : Bool) → cond b (unitAt words) (unreadable (getD words 3 0)) .k ≡ getD words 3 0
-    go true = refl
-    go false = refl
-
-pub index-fits : (words : List ℕ) (t : Tables) (x : ℕ) (f : Found) → f ≡ foundIn words t x → f .index < 65536
-index-fits words t x f e = omega (arith, found-index (unitSeen words) t x, ap (λ (f : Found). f .index) (e ∙ sym (seen-found words t x)))
+pub index-fits : (u : Record) (t : Tables) (x : ℕ) (f : Found) → f ≡ lookupOf u t x → f .index < 65536
+index-fits u t x f e = omega (arith, found-index u t x, ap (λ (f : Found). f .index) e)
 
 -- ---- many keys
 
@@ -128,18 +97,15 @@ many-called words t keys old u m l a v e i =
 
 -- ---- writing a file
 
-module _ (words : List ℕ) (t : Tables) (target : List ℕ) where
-  abbrev filedIn : Bool → Filed
-  filedIn b = cond b (filedBy (writeOf (unitAt words) t target)) (filed 14 target)
-
-  pub filed-unread : allInRange (variableWords words) ≡ false → filed 14 target ≡ writeCall words t target
-  unfolding writeCall
-  filed-unread e = sym (ap filedIn e)
-
-  pub filed-read : (u : Record) (w : Written) (l : List ℕ) (a : ℕ) → allInRange (variableWords words) ≡ true → u ≡ unitAt words → file.after w l ≡ writeOf u t target
-      → a ≡ answer (w .refusal) (w .length) → filed a l ≡ writeCall words t target
-  unfolding writeCall
-  filed-read u w l a e v o i = ap (λ (b : ℕ). filed b l) i ∙ ap filedBy (o ∙ ap (λ (u : Record). writeOf u t target) v) ∙ sym (ap filedIn e)
+pub filed-by : (words : List ℕ) (t : Tables) (target : List ℕ) (u : Record) (w : Written) (l : List ℕ) (a : ℕ) → u ≡ unitSeen words → file.after w l ≡ writeOf u t target
+    → a ≡ answer (w .refusal) (w .length) → filed a l ≡ writeCall words t target
+unfolding unitSeen writeCall sound wellFormed
+filed-by words t target u w l a v o i =
+    ap (λ (b : ℕ). filed b l) i ∙ ap filedBy (o ∙ ap (λ (u : Record). writeOf u t target) v) ∙ go (allInRange (variableWords words))
+  where
+    go : (b : Bool) → filedBy (writeOf (cond b (unitAt words) (unreadable (getD words 3 0))) t target) ≡ cond b (filedBy (writeOf (unitAt words) t target)) (filed 14 target)
+    go true = refl
+    go false = ap filedBy (write-unsound (unreadable (getD words 3 0)) t target refl)
 
 pub length-fits : (u : Record) (t : Tables) (target : List ℕ) (w : Written) (l : List ℕ) → file.after w l ≡ writeOf u t target → w .length < 65536
 length-fits u t target w l e = omega (arith, written-few u t target, ap (λ (o : file.Outcome). o .written .length) e)

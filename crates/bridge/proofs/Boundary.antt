@@ -1,59 +1,46 @@
 -- An accepted build's record and tables, handed to lookup and recovery, answer by the list. Assumes nothing.
-use Prim.Native.Nat.{ℕ, suc, _+_, _-_, _*_, _≤_}
+use Prim.Native.Nat.{ℕ, suc, _*_}
 use native.Mathlib.Omega.{arith}
 use mathlib.Core.Path.{_≡_, refl, sym, subst, _∙_}
-use mathlib.Core.Bool.{true}
-use mathlib.Core.List.{List, _++_, map}
-use lib.ListN.{length, getD, take, drop, replicate, length-map, length-append, length-take, length-drop, length-replicate}
+use mathlib.Core.List.{List, map}
+use lib.ListN.{length, getD, take, length-map}
 use Rattle.vectors.specs.declared.Kind.{Kind}
-use Rattle.vectors.specs.declared.Part.the-variants.{Row, Column}
 use Rattle.vectors.specs.declared.Variable.{Variable}
-use Rattle.vectors.specs.Variable.{kindsOf, blankVariable}
+use Rattle.vectors.specs.Variable.{kindsOf}
 use Rattle.vectors.specs.Bounds.{maxVariables}
 use Rattle.build.specs.declared.Refusal.{Refusal}
+use Rattle.record.specs.Record.{markBuilt}
 use Rattle.record.specs.Tables.{Tables}
 use Rattle.build.specs.Build.{Outcome, outcome, chosenRefusal, givenRefusal, buildChosen, buildGiven, rowsShare, chosenKinds}
 use Rattle.lookup.specs.Lookup.{found, lookupOf}
 use Rattle.recover.specs.Recover.{recovered, recoverOf}
 use Rattle.record.specs.Holds.{indexOf}
 use Rattle.unit.specs.Demand2.{Demand2}
-use Rattle.record.specs.Record.{variablesOf, recordOf}
 use Rattle.build.proofs.Holding.Ends.{outcome-accepted}
 use Rattle.build.proofs.Holding.Passed.{Passed, chosen-passed, given-passed}
 use Rattle.unit.proofs.Demand2.{chosen-demand-2, given-demand-2}
-use Rattle.record.proofs.Excesses.{excess-fits}
-use Rattle.bridge.specs.Flat.{variableAt, variableWords, allInRange, flatOf, unitAt}
+use Rattle.flat.specs.Flat.{variableAt, flatOf, unitSeen}
+use Rattle.flat.proofs.Carried.{carried}
 use Rattle.bridge.specs.Calls.{builtAnswer, leftBy, buildCall, givenCall}
 use Rattle.bridge.specs.Boundary.{Exact}
-use Rattle.bridge.proofs.Answers.{build-left, given-left, found-read, found-called, recovered-read}
-use Rattle.bridge.proofs.Carried.{made, variables-carried, carried, carried-range}
+use Rattle.bridge.proofs.Answers.{build-left, given-left, found-by, found-called, recovered-by}
 
 -- ---- what an accepted build leaves
-
-pub variables-many : (n1 : ℕ) (ks : List Kind) → length ks ≤ maxVariables → length (variablesOf n1 ks) ≡ maxVariables
-variables-many n1 ks h =
-    let a : List Variable = map (λ k. made k Row) (take n1 ks) in
-    let b : List Variable = map (λ k. made k Column) (drop n1 ks) in
-    let c : List Variable = replicate (maxVariables - length ks) blankVariable in
-    omega (arith, length-append (a ++ b) c, length-append a b, length-map (take n1 ks) (λ k. made k Row), length-map (drop n1 ks) (λ k. made k Column), length-take n1 ks, length-drop n1 ks, length-replicate (maxVariables - length ks) blankVariable)
 
 module _ (n n1 : ℕ) (second : Refusal) (ks : List Kind) (cells allowance : ℕ) (vs : List ℕ) (t : Tables) (r : Refusal) (pass : r .number ≡ 0 → Passed n n1 second ks cells vs t)
     (z : outcome r n n1 ks cells allowance vs t .built .refusal ≡ 0) where
   abbrev o : Outcome
   o = outcome r n n1 ks cells allowance vs t
 
-  left-carried : (unitAt (flatOf (o .built .unit)) ≡ o .built .unit) × (allInRange (variableWords (flatOf (o .built .unit))) ≡ true)
-  unfolding recordOf
+  left-carried : unitSeen (flatOf (o .built .unit)) ≡ o .built .unit
   left-carried =
       let a = outcome-accepted n n1 ks cells allowance vs t r z in
       let p = pass (a .passed) in
-      let many = variables-many n1 ks (p .split .few) in
-      let fits = excess-fits (length ks) (length vs) (omega (arith, p .split .few)) (omega (arith, p .list .listed .few)) in
-      let c = variables-carried n n1 ks (p .list .listed .inputs) (p .split .right) in
-      rw (a .is) (carried _ many fits c, carried-range _ many fits c)
+      rw (a .is) (carried markBuilt n n1 (length vs) ks cells _ (p .list .listed .inputs) (p .split .right) (p .split .few) (p .list .listed .few))
 
+-- its record in words is seen as it was written
 abbrev pub Carried : Outcome → Type 0
-Carried o = o .built .refusal ≡ 0 → (unitAt (flatOf (o .built .unit)) ≡ o .built .unit) × (allInRange (variableWords (flatOf (o .built .unit))) ≡ true)
+Carried o = o .built .refusal ≡ 0 → unitSeen (flatOf (o .built .unit)) ≡ o .built .unit
 
 pub chosen-carried : (n degree cells allowance : ℕ) (vs : List ℕ) (t : Tables) → Carried (buildChosen n degree cells allowance vs t)
 unfolding buildChosen
@@ -78,10 +65,10 @@ module _ (n : ℕ) (vs : List ℕ) (o : Outcome) (d : Demand2 lookupOf recoverOf
       record {
         lookup-exact = λ e x l.
             let z = no-refusal (o .built .refusal) (o .built .place) (o .built .needed) e in
-            sym (found-called (flatOf (o .built .unit)) (o .tables) x (found (indexOf vs x)) (256 * indexOf vs x) (found-read (flatOf (o .built .unit)) (o .tables) x (o .built .unit) (found (indexOf vs x)) (c z .1) (sym (c z .0)) (sym (d .lookup-exact z x l))) (omega arith));
+            sym (found-called (flatOf (o .built .unit)) (o .tables) x (found (indexOf vs x)) (256 * indexOf vs x) (found-by (flatOf (o .built .unit)) (o .tables) x (o .built .unit) (found (indexOf vs x)) (sym (c z)) (sym (d .lookup-exact z x l))) (omega arith));
         recovery-exact = λ e i l.
             let z = no-refusal (o .built .refusal) (o .built .place) (o .built .needed) e in
-            sym (recovered-read (flatOf (o .built .unit)) (o .tables) (suc i) (o .built .unit) (recovered (getD vs i 0)) (c z .1) (sym (c z .0)) (sym (d .recovery-exact z i l)));
+            sym (recovered-by (flatOf (o .built .unit)) (o .tables) (suc i) (o .built .unit) (recovered (getD vs i 0)) (sym (c z)) (sym (d .recovery-exact z i l)));
       }
 
 pub build-exact : (n degree cells allowance : ℕ) (vs : List ℕ) (t : Tables) → Exact n vs (buildCall n degree cells allowance vs t)

@@ -28,21 +28,21 @@ use Rattle.file.proofs.Outcomes.{file-length, file-longest, write-fits}
 use Rattle.file.proofs.Decoding.Built.{chosen-record-carried, given-record-carried}
 use Rattle.file.proofs.Loading.Carried.{roomy-long, read-written}
 use Rattle.file.proofs.Loading.Demands.{carried-chosen-demand-2, carried-given-demand-2}
-use Rattle.bridge.specs.Flat.{variableAt, variableWords, allInRange, flatOf, unitAt}
+use Rattle.flat.specs.Flat.{variableAt, flatOf, unitSeen}
 use Rattle.bridge.specs.Calls.{builtAnswer, Left, left, leftBy, buildCall, givenCall, Filed, filed, writeCall, readCall}
 use Rattle.bridge.specs.Boundary.{Exact, Carries}
-use Rattle.bridge.proofs.Answers.{build-left, given-left, filed-read}
+use Rattle.bridge.proofs.Answers.{build-left, given-left, filed-by}
 use Rattle.bridge.proofs.Boundary.{Carried, chosen-carried, given-carried, no-refusal, exact}
 
 -- ---- the bytes that are written
 
-module _ (u : Record) (t : Tables) (range : allInRange (variableWords (flatOf u)) ≡ true) (back : unitAt (flatOf u) ≡ u) (h : sound u t ≡ true) (target : List ℕ) (room : longestFile ≤ length target) where
+module _ (u : Record) (t : Tables) (back : unitSeen (flatOf u) ≡ u) (h : sound u t ≡ true) (target : List ℕ) (room : longestFile ≤ length target) where
   written : writeCall (flatOf u) t target ≡ filed (256 * length (fileOf u t)) (over (fileOf u t) target)
   written =
       let bytes : List ℕ = fileOf u t in
       let size : length bytes ≤ length target = omega (arith, file-length u t h, file-longest u t h) in
       let w : Written = record { refusal = 0; place = 0; length = length bytes } in
-      sym (filed-read (flatOf u) t target u w (over bytes target) (256 * length bytes) range (sym back) (sym (write-fits u t h target (omega (arith, file-length u t h)))) (omega arith))
+      sym (filed-by (flatOf u) t target u w (over bytes target) (256 * length bytes) (sym back) (sym (write-fits u t h target (omega (arith, file-length u t h)))) (omega arith))
 
   pub front : take (writeCall (flatOf u) t target .answer / 256) (writeCall (flatOf u) t target .target) ≡ fileOf u t
   front =
@@ -87,7 +87,7 @@ module _ (n : ℕ) (vs : List ℕ) (o : Outcome) (flat : Carried o) (held : o .b
       let z = no-refusal (o .built .refusal) (o .built .place) (o .built .needed) e in
       let q : o .built .place ≡ 0 = omega arith in
       let y : o .built .needed ≡ 0 = omega arith in
-      let f = front unit (o .tables) (flat z .1) (flat z .0) (held z .is-sound) target room in
+      let f = front unit (o .tables) (flat z) (held z .is-sound) target room in
       let l = read-left z q y into roomy in
       subst (λ (x : List ℕ). (readCall x into .answer ≡ 0) × Exact n vs (readCall x into)) (sym f)
       (subst (λ (y : Left). (y .answer ≡ 0) × Exact n vs y) (sym l) (e, exact n vs (facts.carried readOf into o) (demand into roomy) (flat-read z into roomy)))

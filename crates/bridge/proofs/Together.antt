@@ -13,7 +13,7 @@ use Rattle.many.specs.declared.Many.{Many}
 use Rattle.many.specs.Lookups as many
 use Rattle.many.specs.Lookups.{refusedAt, orElse, firstRefused, leftBy}
 use Rattle.many.proofs.Keys.{many-by}
-use Rattle.bridge.specs.Flat.{unitSeen}
+use Rattle.flat.specs.Flat.{unitSeen}
 use Rattle.bridge.specs.Calls.{answer, Left, foundIn, lookupCall, indexed, placeBits, manyCall}
 use Rattle.bridge.specs.Boundary.{Exact, ExactTogether}
 use Rattle.bridge.proofs.Answers.{seen-found}

@@ -12,7 +12,7 @@ use Rattle.many.specs.Lookups.{lookupMany}
 use Rattle.file.specs.Write as file
 use Rattle.file.specs.Write.{writeOf}
 use Rattle.file.specs.Read.{readOf}
-use Rattle.bridge.specs.Flat.{variableAt, flatOf, unitAt, variableWords, allInRange}
+use Rattle.flat.specs.Flat.{variableAt, flatOf, unitAt, variableWords, allInRange}
 
 -- the answer: the refusal, and above its 8 bits the place or the index
 abbrev pub answer : ℕ → ℕ → ℕ

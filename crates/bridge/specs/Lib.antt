@@ -1,4 +1,2 @@
-pub mod Flat
 pub mod Calls
 pub mod Boundary
-pub mod Inner

@@ -1,16 +1,31 @@
 // The unit for C and Rust: seven functions over slices and a flat record of 40 words.
 ghost use mathlib.Core.Path.{_≡_};
 ghost use mathlib.Core.List.{_∷_, []};
+ghost use Prim.Native.Nat.{_<_};
 ghost use Rattle.record.specs.Tables.{lent};
-ghost use Rattle.bridge.specs.Calls.{left, buildCall, givenCall, foundIn, lookupCall, indexed, manyCall, recoveredIn, filed, writeCall, readCall};
+ghost use Rattle.bridge.specs.Calls as spec;
+ghost use Rattle.bridge.specs.Calls.{left, buildCall, givenCall, lookupCall, indexed, manyCall, recoveredIn, filed, writeCall, readCall};
 use flat::WORDS;
-use unit::Found;
 use vectors::MAX_VARIABLES;
-
-pub mod flat;
 
 // So many places an answer can tell apart.
 const MAX_PLACES: u64 = 1 << 56;
+
+// A refusal and a number in one word.
+fn answer(refusal: u8, number: usize) -> u64
+    requires { ⌜ number < 65536 ⌝ }
+    ensures { λ r. ⌜ r ≡ spec.answer refusal number ⌝ }
+{
+    refusal as u64 + 256 * (number as u64)
+}
+
+// A build's answer in one word.
+fn built_answer(refusal: u8, place: usize, needed: usize) -> u64
+    requires { ⌜ (place < 65536) × (needed < 65536) ⌝ }
+    ensures { λ r. ⌜ r ≡ spec.builtAnswer refusal place needed ⌝ }
+{
+    answer(refusal, place) + 4294967296 * (needed as u64)
+}
 
 // The build that chooses its variables, with an allowance of tries. The answer is the refusal, 256 times the place and 2^32 times the
 // cells needed.
@@ -32,7 +47,7 @@ pub extern "C" fn igu_build(
     let built = unit::build_chosen(n, degree, cells, allowance, vectors, h, g, aux);
     let unit = built.unit;
     *words = flat::words(unit);
-    flat::built_answer(built.refusal, built.place, built.needed)
+    built_answer(built.refusal, built.place, built.needed)
 }
 
 // The build whose variables and n1 the caller states, likewise.
@@ -53,37 +68,36 @@ pub extern "C" fn igu_build_given(
     ensures { λ r. ⌜ left r (now (words .exit)) (lent (now (h .exit)) (now (g .exit)) (now (aux .exit)))
         ≡ givenCall n p n1 cells allowance (now (variables .entry)) (now (vectors .entry)) (lent (now (h .entry)) (now (g .entry)) (now (aux .entry))) ⌝ }
 {
-    let counted = flat::all_counted(variables);
-    let given = flat::variables(&counted);
-    let built = unit::build_given(n, given, p, n1, cells, allowance, vectors, h, g, aux);
+    let built = unit::build_given(
+        n,
+        flat::variables(variables),
+        p,
+        n1,
+        cells,
+        allowance,
+        vectors,
+        h,
+        g,
+        aux,
+    );
     let unit = built.unit;
     *words = flat::words(unit);
-    flat::built_answer(built.refusal, built.place, built.needed)
+    built_answer(built.refusal, built.place, built.needed)
 }
 
-// What lookup gives by a record; 14 where a word of the variables is out of range.
-pub fn find(words: &[u64; WORDS], h: &[u16], g: &[u16], aux: &[u64], x: u64) -> Found
-    ensures { λ r. ⌜ r ≡ foundIn (now (words .entry)) (lent (now (h .entry)) (now (g .entry)) (now (aux .entry))) x ⌝ }
-{
-    if !flat::readable(words) {
-        return Found {
-            refusal: 14,
-            place: 0,
-            index: 0,
-        };
-    }
-    let all = &words[..];
-    let variables = flat::variables(&all[8..32]);
-    unit::lookup(flat::unit(words, variables), h, g, aux, x)
-}
-
-// The refusal and 256 times the number of the registered vector x, or 0.
+// The refusal and 256 times the number of the registered vector x, or 0. The words are tested and read here, and not by `flat::seen`, which the compiler
+// would not take in.
 #[no_mangle]
 pub extern "C" fn igu_lookup(words: &[u64; WORDS], h: &[u16], g: &[u16], aux: &[u64], x: u64) -> u64
     ensures { λ r. ⌜ r ≡ lookupCall (now (words .entry)) (lent (now (h .entry)) (now (g .entry)) (now (aux .entry))) x ⌝ }
 {
-    let found = find(words, h, g, aux, x);
-    flat::answer(found.refusal, found.index)
+    if !flat::readable(words) {
+        return 14;
+    }
+    let all = &words[..];
+    let variables = flat::low_variables(&all[8..32]);
+    let found = unit::lookup(flat::unit(words, variables), h, g, aux, x);
+    answer(found.refusal, found.index)
 }
 
 // The index of each key goes to indices. The answer is the refusal of the first key that is refused, and 256 times its number, for which it has 56 bits:
@@ -117,13 +131,7 @@ pub extern "C" fn igu_recover(
     ensures { λ r. ⌜ r ≡ recoveredIn (now (words .entry)) (lent (now (h .entry)) (now (g .entry)) (now (aux .entry))) i .refusal ⌝ }
     ensures { λ _. ⌜ now (vector .exit) ≡ recoveredIn (now (words .entry)) (lent (now (h .entry)) (now (g .entry)) (now (aux .entry))) i .vector ∷ [] ⌝ }
 {
-    if !flat::readable(words) {
-        *vector = [0];
-        return 14;
-    }
-    let all = &words[..];
-    let variables = flat::variables(&all[8..32]);
-    let recovered = unit::recover(flat::unit(words, variables), h, g, aux, i);
+    let recovered = unit::recover(flat::seen(words), h, g, aux, i);
     *vector = [recovered.vector];
     recovered.refusal as u64
 }
@@ -139,13 +147,8 @@ pub extern "C" fn igu_write(
 ) -> u64
     ensures { λ r. ⌜ filed r (now (target .exit)) ≡ writeCall (now (words .entry)) (lent (now (h .entry)) (now (g .entry)) (now (aux .entry))) (now (target .entry)) ⌝ }
 {
-    if !flat::readable(words) {
-        return 14;
-    }
-    let all = &words[..];
-    let variables = flat::variables(&all[8..32]);
-    let written = file::write(flat::unit(words, variables), h, g, aux, target);
-    flat::answer(written.refusal, written.length)
+    let written = file::write(flat::seen(words), h, g, aux, target);
+    answer(written.refusal, written.length)
 }
 
 // The refusal; the record and the tables are the unit's that the file holds.

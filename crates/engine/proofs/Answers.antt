@@ -16,9 +16,10 @@ use Rattle.build.specs.Build.{Outcome}
 use Rattle.unit.proofs.Demand1.Calls.{lookup-demand-1}
 use Rattle.build.specs.Cells.{neededLimit}
 use Rattle.build.proofs.Places.{placeLimit, chosen-place, chosen-needed}
-use Rattle.bridge.specs.Flat.{unitSeen}
+use Rattle.flat.specs.Flat.{unitSeen}
+use Rattle.flat.proofs.Records.{seen-keys}
 use Rattle.bridge.specs.Calls.{leftBy, lookupCall}
-use Rattle.bridge.proofs.Answers.{found-called, seen-found, seen-keys}
+use Rattle.bridge.proofs.Answers.{found-called, seen-found}
 use Rattle.profiles.specs.declared.Key.{Key}
 use Rattle.profiles.specs.declared.Slab.{Slab}
 use Rattle.profiles.specs.declared.Held.{Held}

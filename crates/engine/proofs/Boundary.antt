@@ -14,9 +14,8 @@ use Rattle.file.specs.Read.{readOf}
 use Rattle.file.specs.Facts.{carried, carriedChosen}
 use Rattle.file.proofs.Decoding.Built.{chosen-record-carried}
 use Rattle.file.proofs.Loading.Demands.{carried-chosen-demand-2}
-use Rattle.bridge.specs.Flat.{flatOf, unitSeen}
+use Rattle.flat.specs.Flat.{flatOf, unitSeen}
 use Rattle.bridge.specs.Calls.{Left, leftBy, writeCall, readCall}
-use Rattle.bridge.proofs.Answers.{seen-read}
 use Rattle.bridge.proofs.Boundary.{Carried, chosen-carried}
 use Rattle.bridge.proofs.Files.{front, read-left, flat-read}
 use Rattle.profiles.specs.declared.Key.{Key}
@@ -28,10 +27,6 @@ use Rattle.profiles.proofs.Promise.{sure-promised, chosen-sure, carried-sure}
 use Rattle.engine.specs.Calls.{keysCall, profileCall}
 use Rattle.engine.specs.Boundary.{Called, CalledByFile, slabsIn, CallsPromised}
 use Rattle.engine.proofs.Answers.{keys-left}
-
--- a record in words is seen as it was written
-seen-back : (o : Outcome) → Carried o → o .built .refusal ≡ 0 → unitSeen (flatOf (o .built .unit)) ≡ o .built .unit
-seen-back o c z = sym (seen-read (flatOf (o .built .unit)) (c z .1)) ∙ c z .0
 
 module _ (keys : List Key) (words : List ℕ) (t : Tables) (c : Called keys words t) where
   abbrev o : Outcome
@@ -73,7 +68,7 @@ module _ (keys : List Key) (words : List ℕ) (t : Tables) (c : Called keys word
         allowance = c .allowance;
         lent = c .lent;
         accepted = ap (λ (q : Outcome). q .built .refusal) by ∙ passed .none;
-        unit = ap unitSeen record-was ∙ seen-back o (chosen-carried keyBits (c .degree) (c .cells) (c .allowance) (map packed keys) (c .lent)) (passed .none) ∙ sym (ap (λ (q : Outcome). q .built .unit) by);
+        unit = ap unitSeen record-was ∙ chosen-carried keyBits (c .degree) (c .cells) (c .allowance) (map packed keys) (c .lent) (passed .none) ∙ sym (ap (λ (q : Outcome). q .built .unit) by);
         tables = tables-were ∙ sym (ap (λ (q : Outcome). q .tables) by);
       }
 
@@ -103,7 +98,7 @@ module _ (keys : List Key) (words : List ℕ) (t : Tables) (c : CalledByFile key
   was-read =
       ap₂ (λ (w : List ℕ) (s : Tables). readCall (take (writeCall w s (c .target) .answer / 256) (writeCall w s (c .target) .target)) (c .into)) (record-was keys (c .before) (c .tables) d) (tables-were keys (c .before) (c .tables) d)
       ∙ ap (λ (bytes : List ℕ). readCall bytes (c .into))
-      (front (made .built .unit) (made .tables) (flat accepted-made .1) (flat accepted-made .0) (chosen-holds keyBits (d .degree) (d .cells) (d .allowance) vs (d .lent) accepted-made .is-sound) (c .target) (c .room))
+      (front (made .built .unit) (made .tables) (flat accepted-made) (chosen-holds keyBits (d .degree) (d .cells) (d .allowance) vs (d .lent) accepted-made .is-sound) (c .target) (c .room))
       ∙ read-left keyBits vs made flat (chosen-holds keyBits (d .degree) (d .cells) (d .allowance) vs (d .lent)) (chosen-record-carried keyBits (d .degree) (d .cells) (d .allowance) vs (d .lent))
       (λ into roomy. carried-chosen-demand-2 into roomy keyBits (d .degree) (d .cells) (d .allowance) vs (d .lent)) accepted-made (passed keys (c .before) (c .tables) d .nowhere) (passed keys (c .before) (c .tables) d .unneeded) (c .into) (c .roomy)
 
@@ -121,7 +116,7 @@ module _ (keys : List Key) (words : List ℕ) (t : Tables) (c : CalledByFile key
         allowance = d .allowance;
         lent = d .lent;
         accepted = ap (λ (q : Outcome). q .built .refusal) by ∙ accepted-made;
-        unit = ap unitSeen (c .record-is ∙ ap (λ (m : Left). m .words) was-read) ∙ seen-back (carried readOf (c .into) made) flat-carried accepted-made ∙ sym (ap (λ (q : Outcome). q .built .unit) by);
+        unit = ap unitSeen (c .record-is ∙ ap (λ (m : Left). m .words) was-read) ∙ flat-carried accepted-made ∙ sym (ap (λ (q : Outcome). q .built .unit) by);
         tables = c .tables-are ∙ ap (λ (m : Left). m .tables) was-read ∙ sym (ap (λ (q : Outcome). q .tables) by);
       }
 

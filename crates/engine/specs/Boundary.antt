@@ -8,7 +8,7 @@ use denote.Ref.{RefT, now}
 use Rattle.record.specs.Tables.{Tables}
 use Rattle.file.specs.File.{longestFile}
 use Rattle.file.specs.Facts.{Roomy}
-use Rattle.bridge.specs.Flat.{unitSeen}
+use Rattle.flat.specs.Flat.{unitSeen}
 use Rattle.bridge.specs.Calls.{writeCall, readCall}
 use Rattle.profiles.specs.declared.Key.{Key}
 use Rattle.profiles.specs.Place.{slabOf, roomOf, tooShort}

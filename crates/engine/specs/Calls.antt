@@ -2,7 +2,7 @@
 use Prim.Native.Nat.{ℕ, _+_, _*_, _^_}
 use mathlib.Core.List.{List}
 use Rattle.record.specs.Tables.{Tables}
-use Rattle.bridge.specs.Flat.{flatOf, unitSeen}
+use Rattle.flat.specs.Flat.{flatOf, unitSeen}
 use Rattle.bridge.specs.Calls.{Left, leftBy}
 use Rattle.profiles.specs.declared.Key.{Key}
 use Rattle.profiles.specs.declared.Whose.{Whose}

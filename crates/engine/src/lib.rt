@@ -1,4 +1,4 @@
-// The profiles of keys for C and Rust: two functions over slices and the flat records of crate `bridge`.
+// The profiles of keys for C and Rust: two functions over slices and the records of crate `flat`.
 ghost use mathlib.Core.Path.{_≡_};
 ghost use mathlib.Core.List.{map};
 ghost use Prim.Native.Nat.{_<_};
@@ -7,7 +7,7 @@ ghost use Rattle.bridge.specs.Calls.{left};
 ghost use Rattle.profiles.specs.Key.{keyOf};
 ghost use Rattle.engine.specs.Calls as spec;
 ghost use Rattle.engine.specs.Calls.{keysCall, profileCall};
-use bridge::flat::WORDS;
+use flat::WORDS;
 use profiles::Room;
 
 // A refusal is below the first, and the second in an answer says the brand's slab.
@@ -40,7 +40,7 @@ pub extern "C" fn igu_profiles_build(
 {
     let built = profiles::build(degree, cells, allowance, keys, h, g, aux);
     let unit = built.unit;
-    *words = bridge::flat::words(unit);
+    *words = flat::words(unit);
     answer(built.refusal, built.place, built.needed)
 }
 

@@ -1,0 +1,4 @@
+pub mod Ranges
+pub mod Signs
+pub mod Records
+pub mod Carried
