@@ -1,6 +1,5 @@
 -- What the call for C gives, from what adding gives. Assumes nothing.
 use Prim.Native.Nat.{ℕ, zero, suc, _<_}
-use native.Mathlib.Omega.{arith}
 use mathlib.Core.Path.{_≡_, refl, sym, ap, ap₂, _∙_}
 use mathlib.Core.List.{List}
 use Rattle.record.specs.declared.Record.{Record}
@@ -11,7 +10,7 @@ use Rattle.build.proofs.Places.{placeLimit}
 use Rattle.add.specs.Add.{addOf}
 use Rattle.add.proofs.Places.{add-place}
 use Rattle.flat.specs.Flat.{flatOf, unitSeen}
-use Rattle.bridge.specs.Calls.{Left, left, answer}
+use Rattle.bridge.specs.Calls.{left, answer}
 use Rattle.adding.specs.Calls.{wordsAfter, addedTo, addCall}
 
 -- over the unit that the record is read as

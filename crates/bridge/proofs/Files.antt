@@ -1,7 +1,7 @@
 -- A unit that C has written and read answers by the list. Assumes nothing.
-use Prim.Native.Nat.{ℕ, _+_, _*_, _/_, _≤_}
+use Prim.Native.Nat.{ℕ, _*_, _/_, _≤_}
 use native.Mathlib.Omega.{arith}
-use mathlib.Core.Path.{_≡_, refl, sym, ap, ap₂, subst, _∙_}
+use mathlib.Core.Path.{_≡_, refl, sym, ap, subst, _∙_}
 use mathlib.Core.Bool.{true}
 use mathlib.Core.List.{List, map}
 use lib.ListN.{length, take, drop, length-map}
@@ -18,9 +18,6 @@ use Rattle.build.proofs.Holding.Holds.{chosen-holds, given-holds}
 use Rattle.unit.specs.Demand2.{Demand2}
 use Rattle.file.specs.declared.Written.{Written}
 use Rattle.file.specs.File.{longestFile, fileOf}
-use Rattle.file.specs.Write as file
-use Rattle.file.specs.Write.{writeOf}
-use Rattle.file.specs.Decode.{recordIn}
 use Rattle.file.specs.Read.{Reading, readOf}
 use Rattle.file.specs.Facts.{RecordCarried, Roomy}
 use Rattle.file.specs.Facts as facts

@@ -6,7 +6,6 @@ use mathlib.Core.Bool.{true, false, _||_, _&&_}
 use mathlib.Core.List.{List, [], _∷_, _++_, map}
 use borrow.Author.Tests.{ltb-false, leb-false, lt-ltb}
 use lib.Dec.{eqb, leb, ltb}
-use lib.IntN.{ℤ}
 use lib.ListN.{length, getD, take, drop, replicate, length-map, length-append, length-take, length-drop, length-replicate}
 use lib.Seq.{take-append-le, take-all, getD-append-add}
 use mir.Facts.{toZ-ofZ}

@@ -68,7 +68,7 @@ flatOf u =
 abbrev pub variableWords : List ℕ → List ℕ
 variableWords words = take maxVariables (drop firstVariable words)
 
--- the variables of up to 24 words by their lowest 17 bits, blank ones after them
+-- the variables of the first 24 words by their lowest 17 bits, blank ones where the words are fewer
 unfoldable pub lowVariables : List ℕ → List Variable
 unfolding lowVariable
 lowVariables words = map lowVariable (take maxVariables words) ++ replicate (maxVariables - length words) blankVariable

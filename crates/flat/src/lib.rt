@@ -68,8 +68,8 @@ fn low_variable(word: u64) -> Variable
     Variable { kind, part }
 }
 
-// The variables of up to 24 words by their lowest 17 bits, blank ones after them. The loop goes by the slice's length and not by 24: small as it then
-// is, the compiler takes it into lookup, where the length is known, and reads the words there several at a time.
+// The variables of the first 24 words by their lowest 17 bits, blank ones where the words are fewer. The loop goes by the slice's length and not by 24:
+// small as it then is, the compiler takes it into lookup, where the length is known, and reads the words there several at a time.
 pub fn low_variables(words: &[u64]) -> [Variable; MAX_VARIABLES]
     ensures { λ r. ⌜ r ≡ spec.lowVariables (now (words .entry)) ⌝ }
 {
@@ -93,7 +93,7 @@ fn variable_at(word: u64) -> Variable
     low_variable(word)
 }
 
-// The variables that a caller states.
+// The variables of 24 words that a caller states.
 pub fn variables(words: &[u64; MAX_VARIABLES]) -> [Variable; MAX_VARIABLES]
     ensures { λ r. ⌜ r ≡ map spec.variableAt (now (words .entry)) ⌝ }
 {
