@@ -66,13 +66,13 @@ module _ (words : List ℕ) (t : Tables) (x : ℕ) where
   pub found-by : (u : Record) (f : Found) → u ≡ unitSeen words → f ≡ lookupOf u t x → f ≡ foundIn words t x
   found-by u f v l = l ∙ ap (λ (u : Record). lookupOf u t x) v ∙ seen-found
 
+  pub found-unread : allInRange (variableWords words) ≡ false → notFound 14 ≡ foundIn words t x
+  unfolding foundIn
+  found-unread e = sym (ap (λ (b : Bool). cond b (lookupOf (unitAt words) t x) (notFound 14)) e)
+
   pub found-called : (f : Found) (a : ℕ) → f ≡ foundIn words t x → a ≡ answer (f .refusal) (f .index) → a ≡ lookupCall words t x
   unfolding lookupCall
   found-called f a e i = i ∙ ap (λ (f : Found). answer (f .refusal) (f .index)) e
-
-  pub unread-called : allInRange (variableWords words) ≡ false → 14 ≡ lookupCall words t x
-  unfolding foundIn
-  unread-called e = found-called (notFound 14) 14 (sym (ap (λ (b : Bool). cond b (lookupOf (unitAt words) t x) (notFound 14)) e)) refl
 
   pub recovered-by : (u : Record) (r : Recovered) → u ≡ unitSeen words → r ≡ recoverOf u t x → r ≡ recoveredIn words t x
   unfolding unitSeen recoveredIn wellFormed
@@ -82,8 +82,8 @@ module _ (words : List ℕ) (t : Tables) (x : ℕ) where
       go true = refl
       go false = sym (recover-unformed (unreadable (getD words 3 0)) t x refl)
 
-pub index-fits : (u : Record) (t : Tables) (x : ℕ) (f : Found) → f ≡ lookupOf u t x → f .index < 65536
-index-fits u t x f e = omega (arith, found-index u t x, ap (λ (f : Found). f .index) e)
+pub index-fits : (words : List ℕ) (t : Tables) (x : ℕ) (f : Found) → f ≡ foundIn words t x → f .index < 65536
+index-fits words t x f e = omega (arith, found-index (unitSeen words) t x, ap (λ (f : Found). f .index) (e ∙ sym (seen-found words t x)))
 
 -- ---- many keys
 

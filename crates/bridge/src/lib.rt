@@ -4,8 +4,9 @@ ghost use mathlib.Core.List.{_∷_, []};
 ghost use Prim.Native.Nat.{_<_};
 ghost use Rattle.record.specs.Tables.{lent};
 ghost use Rattle.bridge.specs.Calls as spec;
-ghost use Rattle.bridge.specs.Calls.{left, buildCall, givenCall, lookupCall, indexed, manyCall, recoveredIn, filed, writeCall, readCall};
+ghost use Rattle.bridge.specs.Calls.{left, buildCall, givenCall, foundIn, lookupCall, indexed, manyCall, recoveredIn, filed, writeCall, readCall};
 use flat::WORDS;
+use unit::Found;
 use vectors::MAX_VARIABLES;
 
 // So many places an answer can tell apart.
@@ -85,18 +86,28 @@ pub extern "C" fn igu_build_given(
     built_answer(built.refusal, built.place, built.needed)
 }
 
-// The refusal and 256 times the number of the registered vector x, or 0. The words are tested and read here, and not by `flat::seen`, which the compiler
-// would not take in.
+// What lookup gives by a record. The words are tested and read here, and not by `flat::seen`, which the compiler would not take in.
+fn find(words: &[u64; WORDS], h: &[u16], g: &[u16], aux: &[u64], x: u64) -> Found
+    ensures { λ r. ⌜ r ≡ foundIn (now (words .entry)) (lent (now (h .entry)) (now (g .entry)) (now (aux .entry))) x ⌝ }
+{
+    if !flat::readable(words) {
+        return Found {
+            refusal: 14,
+            place: 0,
+            index: 0,
+        };
+    }
+    let all = &words[..];
+    let variables = flat::low_variables(&all[8..32]);
+    unit::lookup(flat::unit(words, variables), h, g, aux, x)
+}
+
+// The refusal and 256 times the number of the registered vector x, or 0.
 #[no_mangle]
 pub extern "C" fn igu_lookup(words: &[u64; WORDS], h: &[u16], g: &[u16], aux: &[u64], x: u64) -> u64
     ensures { λ r. ⌜ r ≡ lookupCall (now (words .entry)) (lent (now (h .entry)) (now (g .entry)) (now (aux .entry))) x ⌝ }
 {
-    if !flat::readable(words) {
-        return 14;
-    }
-    let all = &words[..];
-    let variables = flat::low_variables(&all[8..32]);
-    let found = unit::lookup(flat::unit(words, variables), h, g, aux, x);
+    let found = find(words, h, g, aux, x);
     answer(found.refusal, found.index)
 }
 
