@@ -13,11 +13,9 @@ use Rattle.lists.proofs.Entries.Members.{getD-map}
 use Rattle.lists.proofs.Writing.Storing.{storing-none}
 use Rattle.lookup.specs.declared.Found.{Found}
 use Rattle.record.specs.Tables.{over}
-use Rattle.lookup.specs.Lookup.{notFound}
+use Rattle.lookup.specs.Lookup.{found, notFound}
 use Rattle.many.specs.declared.Many.{Many}
-use Rattle.many.specs.declared.find.Hit.{Hit}
 use Rattle.many.specs.Lookups.{refusedAt, orElse, firstRefused, Left, left, leftBy, lookupMany}
-use Rattle.many.specs.Inner.Images.{HitIs}
 use Rattle.many.specs.Inner.Keys.{Done, Stopped}
 use Rattle.many.proofs.Stored.{stored-more, stored-all}
 
@@ -30,11 +28,11 @@ else-some (suc r) p m n = refl
 
 -- ---- one key more
 
-pub done-more : (look : ℕ → Found) (keys old l : List ℕ) (r : Hit) (i d : ℕ) → i < length keys → HitIs (look (getD keys i d)) r → Done look keys old l i
-    → Done look keys old (set l i (r .index)) (i + 1)
-done-more look keys old l r i d h s g =
-    stored-more (map (λ x. look x .index) keys) old 0 (r .index) l i (rw (length-map keys (λ x. look x .index)) h)
-    (s .index ∙ sym (getD-map (λ x. look x .index) keys i d 0 h)) g
+pub done-more : (look : ℕ → Found) (keys old l : List ℕ) (v i : ℕ) → i < length keys → v ≡ look (getD keys i 0) .index → Done look keys old l i
+    → Done look keys old (set l i v) (i + 1)
+done-more look keys old l v i h e g =
+    stored-more (map (λ x. look x .index) keys) old 0 v l i (rw (length-map keys (λ x. look x .index)) h)
+    (e ∙ sym (getD-map (λ x. look x .index) keys i 0 0 h)) g
 
 pub done-none : (look : ℕ → Found) (keys old : List ℕ) → Done look keys old old 0
 done-none look keys old = storing-none _ old 0
@@ -44,52 +42,48 @@ done-end look keys old l i h g =
     let e : i ≡ length keys = omega (arith, g .within, length-map keys (λ x. look x .index)) in
     rw e at g
 
--- no key is refused before i
-pub record Stage (look : ℕ → Found) (keys old l : List ℕ) (i : ℕ) : Type 0 where
+-- no key from one on up to i is refused
+pub record Stage (look : ℕ → Found) (keys old : List ℕ) (from : ℕ) (l : List ℕ) (i : ℕ) : Type 0 where
   pub stored : Done look keys old l i
-  pub rest : firstRefused look (suc i) (drop i keys) ≡ firstRefused look 1 keys
+  pub rest : firstRefused look (suc i) (drop i keys) ≡ firstRefused look (suc from) (drop from keys)
 
 module _ (look : ℕ → Found) (keys old : List ℕ) where
-  pub stage-none : Stage look keys old old 0
-  stage-none = record { stored = done-none look keys old; rest = refl }
+  pub stage-none : (from : ℕ) (l : List ℕ) → Done look keys old l from → Stage look keys old from l from
+  stage-none from l d = record { stored = d; rest = refl }
 
-  module _ (l : List ℕ) (r : Hit) (i d : ℕ) (h : i < length keys) (s : HitIs (look (getD keys i d)) r) (g : Stage look keys old l i) where
-    next : orElse (r .refusal) (suc i) (firstRefused look (suc (suc i)) (drop (suc i) keys)) ≡ firstRefused look 1 keys
-    unfolding firstRefused
-    next = rw (s .refusal) (rw (drop-cons keys i d h) at (g .rest))
+  module _ (from : ℕ) (l : List ℕ) (i : ℕ) (g : Stage look keys old from l i) where
+    module _ (h : i < length keys) where
+      next : orElse (look (getD keys i 0) .refusal) (suc i) (firstRefused look (suc (suc i)) (drop (suc i) keys)) ≡ firstRefused look (suc from) (drop from keys)
+      unfolding firstRefused
+      next = rw (drop-cons keys i 0 h) at (g .rest)
 
-    pub stage-more : r .refusal ≡ 0 → Stage look keys old (set l i (r .index)) (i + 1)
-    unfolding orElse
-    stage-more e = record { stored = done-more look keys old l r i d h s (g .stored); rest = rw (add-one i) (rw e at next) }
+      pub stage-more : (v : ℕ) → found v ≡ look (getD keys i 0) → Stage look keys old from (set l i v) (i + 1)
+      unfolding orElse
+      stage-more v e =
+          record { stored = done-more look keys old l v i h (ap (λ f. f .index) e) (g .stored); rest = rw (add-one i) (rw (sym e) at next) }
 
-    pub stage-stop : (r .refusal ≡ 0 → ⊥) → Stopped look keys old (set l i (r .index)) (refusedAt (r .refusal) (i + 1))
-    stage-stop n =
-        record {
-          stored = done-more look keys old l r i d h s (g .stored);
-          none = λ e. absurd (n e);
-          some = λ _. ap (refusedAt (r .refusal)) (add-one i) ∙ else-some (r .refusal) (suc i) _ n ∙ next;
-        }
+      pub stage-stop : (r : ℕ) → notFound (suc r) ≡ look (getD keys i 0) → Stopped look keys old from l (refusedAt (suc r) i)
+      unfolding orElse
+      stage-stop r e = record { stored = g .stored; first = rw (sym e) at next; refused = λ _. sym (ap (λ f. f .index) e) }
 
-  pub stage-all : (l : List ℕ) (i : ℕ) → i ≡ length keys → Stage look keys old l i → Stopped look keys old l (refusedAt 0 i)
-  unfolding firstRefused
-  stage-all l i e g =
-      let k : length keys ≤ i = omega arith in
-      let d : drop i keys ≡ [] = drop-of-length-le keys k in
-      record { stored = g .stored; none = λ _. (e, rw d at (g .rest)); some = λ n. absurd (n refl) }
+    pub stage-all : length keys ≤ i → Stopped look keys old from l (refusedAt 0 i)
+    unfolding firstRefused orElse
+    stage-all h = record { stored = g .stored; first = rw (drop-of-length-le keys h) at (g .rest); refused = λ k. absurd (omega arith) }
 
   -- every key done
-  done-left : (l : List ℕ) (m : Many) → length keys ≤ length old → Done look keys old l (length keys) → m ≡ firstRefused look 1 keys → left m l ≡ leftBy look keys old
-  unfolding leftBy
-  done-left l m n s e =
-      let k : length (map (λ x. look x .index) keys) ≡ length keys = length-map keys (λ x. look x .index) in
-      ap₂ left e (stored-all (map (λ x. look x .index) keys) old l (length keys) (omega arith) (omega arith) s)
+  module _ (l new : List ℕ) (r m : Many) (n : length keys ≤ length old) (s : Stopped look keys old 0 l r) (d : Done look keys old new (length keys)) where
+    done-left : m ≡ firstRefused look 1 keys → left m new ≡ leftBy look keys old
+    unfolding leftBy
+    done-left e =
+        let k : length (map (λ x. look x .index) keys) ≡ length keys = length-map keys (λ x. look x .index) in
+        ap₂ left e (stored-all (map (λ x. look x .index) keys) old new (length keys) (omega arith) (omega arith) d)
 
-  module _ (l : List ℕ) (m : Many) (n : length keys ≤ length old) (s : Stopped look keys old l m) where
-    pub stopped-none : m .refusal ≡ 0 → left (refusedAt 0 0) l ≡ leftBy look keys old
-    stopped-none e = let p = s .none e in done-left l (refusedAt 0 0) n (rw (p .0) at (s .stored)) (p .1)
+    pub left-none : r .refusal ≡ 0 → m ≡ refusedAt 0 0 → left m new ≡ leftBy look keys old
+    unfolding orElse
+    left-none e f = done-left (f ∙ (rw e at (s .first)))
 
-    pub stopped-some : (new : List ℕ) → (m .refusal ≡ 0 → ⊥) → (Done look keys old l (m .place) → Done look keys old new (length keys)) → left m new ≡ leftBy look keys old
-    stopped-some new e f = done-left new m n (f (s .stored)) (s .some e)
+    pub left-some : (r .refusal ≡ 0 → ⊥) → m ≡ refusedAt (r .refusal) (r .place + 1) → left m new ≡ leftBy look keys old
+    left-some e f = done-left (f ∙ ap (refusedAt (r .refusal)) (add-one (r .place)) ∙ else-some (r .refusal) (suc (r .place)) _ e ∙ s .first)
 
 -- ---- a unit that is not well formed refuses every key
 

@@ -1,17 +1,20 @@
 // The keys looked up, one after the other.
 ghost use mathlib.Core.Path.{_≡_};
+ghost use mathlib.Core.Bool.{cond};
 ghost use mathlib.Core.List.{List};
-ghost use Prim.Native.Nat.{ℕ, _-_, _^_, _≤_};
-ghost use lib.ListN.{length};
+ghost use Prim.Native.Nat.{ℕ, _-_, _^_, _≤_, _<_};
+ghost use lib.Dec.{eqb};
+ghost use lib.ListN.{length, getD};
 ghost use Rattle.record.specs.declared.Record.{Record};
 ghost use Rattle.vectors.specs.Bounds.{maxInputs};
 ghost use Rattle.record.specs.Tables.{lent};
+ghost use Rattle.record.specs.Leads.{wordIn};
 ghost use Rattle.record.specs.Inner.Formed.{InBounds};
-ghost use Rattle.lookup.specs.Lookup.{answer, lookupOf, notFound};
+ghost use Rattle.lookup.specs.Lookup.{compared, answer, lookupOf, notFound};
 ghost use Rattle.many.specs.Lookups.{left, leftBy};
 ghost use Rattle.many.specs.Image.{imageOf};
-ghost use Rattle.many.specs.Inner.Images.{FrameOf, Fits, Opened, HitIs};
-ghost use Rattle.many.specs.Inner.Keys.{Done, Stopped};
+ghost use Rattle.many.specs.Inner.Images.{FrameOf, Fits, Room, Opened};
+ghost use Rattle.many.specs.Inner.Keys.{Done, Refused, Stopped};
 use crate::Many;
 use crate::tables;
 use crate::tables::WORDS;
@@ -26,12 +29,6 @@ pub(crate) struct Frame {
     pub rows: u64,
     pub cells: usize,
     pub k: usize,
-}
-
-// The answer for one key.
-pub(crate) struct Hit {
-    pub refusal: u8,
-    pub index: u16,
 }
 
 // The last number of n bits.
@@ -61,82 +58,71 @@ pub(crate) fn framed(unit: Record) -> Frame
     }
 }
 
-// The answer for a key with the image y. Where G holds 0 the answer is 0, whatever AUX[0] is.
-fn held(frame: Frame, h: &[u16], g: &[u16], aux: &[u64], y: u64) -> Hit
-    requires { ⌜ Fits frame (length (now h)) (length (now g)) (length (now aux)) ⌝ }
-    ensures { λ r. ⌜ ((u : Record) (x : ℕ) → FrameOf u frame → y ≡ imageOf u x → HitIs (answer u (lent (now (h .entry)) (now (g .entry)) (now (aux .entry))) x) r) ⌝ }
+// The index in the cell of a key with the image y and that word; 0 where the cell is at L or above.
+fn held(frame: Frame, h: &[u16], g: &[u16], y: u64, word: u64) -> usize
+    requires { ⌜ Fits frame (length (now h)) (length (now g)) ⌝ }
+    ensures { λ r. ⌜ (r < 2 ^ 16) × ((u : Record) (aux : List ℕ) (x : ℕ) → FrameOf u frame → y ≡ imageOf u x → word ≡ wordIn u x
+        → compared u aux x r ≡ answer u (lent (now (h .entry)) (now (g .entry)) aux) x) ⌝ }
 {
-    let word = y >> frame.shift;
     let row = (word & frame.rows) as usize;
     let column = (y & frame.columns) as usize;
     let cell = h[row] as usize + column;
     if frame.cells <= cell {
-        return Hit {
-            refusal: 0,
-            index: 0,
-        };
+        return 0;
     }
-    let i = record::index(g[cell]);
-    if frame.k < i {
-        return Hit {
-            refusal: 14,
-            index: 0,
-        };
-    }
-    let held = aux[i];
-    if held != word {
-        return Hit {
-            refusal: 0,
-            index: 0,
-        };
-    }
-    Hit {
-        refusal: 0,
-        index: i as u16,
-    }
+    record::index(g[cell])
 }
 
-// The answer for a key.
-fn find(frame: Frame, tables: &[u64; WORDS], h: &[u16], g: &[u16], aux: &[u64], x: u64) -> Hit
-    requires { ⌜ Fits frame (length (now h)) (length (now g)) (length (now aux)) ⌝ }
-    ensures { λ r. ⌜ ((u : Record) → Opened u (lent (now (h .entry)) (now (g .entry)) (now (aux .entry))) frame (now (tables .entry))
-        → HitIs (lookupOf u (lent (now (h .entry)) (now (g .entry)) (now (aux .entry))) x) r) ⌝ }
+// The index i where AUX has that word for it, otherwise 0. The index 0 stays 0, whatever AUX[0] is.
+fn matched(aux: &[u64], i: usize, word: u64) -> u16
+    requires { ⌜ (i < length (now aux)) × (i < 2 ^ 16) ⌝ }
+    ensures { λ r. ⌜ r ≡ cond (eqb (getD (now (aux .entry)) i 0) word) i 0 ⌝ }
 {
-    if frame.last < x {
-        return Hit {
-            refusal: 6,
-            index: 0,
-        };
+    let held = aux[i];
+    if held == word {
+        return i as u16;
     }
-    held(frame, h, g, aux, tables::image(tables, x))
+    0
 }
 
-// The keys up to the first that is refused: its refusal, and how many keys are done. A loop that can stop carries no refusal along.
-fn start(
+// The keys from one on, up to the first that is refused: its refusal, and how many keys are done before it.
+fn run(
     frame: Frame,
     tables: &[u64; WORDS],
     h: &[u16],
     g: &[u16],
     aux: &[u64],
     keys: &[u64],
+    from: usize,
     indices: &mut [u16],
 ) -> Many
-    requires { ⌜ Fits frame (length (now h)) (length (now g)) (length (now aux)) × (length (now keys) ≤ length (now indices)) ⌝ }
-    ensures { λ r. ⌜ ((u : Record) → Opened u (lent (now (h .entry)) (now (g .entry)) (now (aux .entry))) frame (now (tables .entry))
-        → Stopped (lookupOf u (lent (now (h .entry)) (now (g .entry)) (now (aux .entry)))) (now (keys .entry)) (now (indices .entry)) (now (indices .exit)) r) ⌝ }
+    requires { ⌜ Room frame (length (now h)) (length (now g)) (length (now aux)) (length (now keys)) (length (now indices)) × (from ≤ length (now keys)) ⌝ }
+    ensures { λ r. ⌜ (from ≤ r .place) × (r .place ≤ length (now (keys .entry)))
+        × ((u : Record) → Opened u (lent (now (h .entry)) (now (g .entry)) (now (aux .entry))) frame (now (tables .entry))
+        → (old : List ℕ) → Done (lookupOf u (lent (now (h .entry)) (now (g .entry)) (now (aux .entry)))) (now (keys .entry)) old (now (indices .entry)) from
+        → Stopped (lookupOf u (lent (now (h .entry)) (now (g .entry)) (now (aux .entry)))) (now (keys .entry)) old from (now (indices .exit)) r) ⌝ }
 {
     let count = keys.len();
-    let mut i = 0;
+    let mut i = from;
     while i < count {
-        let hit = find(frame, tables, h, g, aux, keys[i]);
-        indices[i] = hit.index;
-        i += 1;
-        if hit.refusal != 0 {
+        let x = keys[i];
+        if frame.last < x {
             return Many {
-                refusal: hit.refusal,
+                refusal: 6,
                 place: i,
             };
         }
+        let y = tables::image(tables, x);
+        let word = y >> frame.shift;
+        let index = held(frame, h, g, y, word);
+        if frame.k < index {
+            return Many {
+                refusal: 14,
+                place: i,
+            };
+        }
+        indices[i] = matched(aux, index, word);
+        i += 1;
     }
     Many {
         refusal: 0,
@@ -144,7 +130,7 @@ fn start(
     }
 }
 
-// The keys from one on, whether refused or not.
+// The keys from a refused one on.
 fn go_on(
     frame: Frame,
     tables: &[u64; WORDS],
@@ -155,16 +141,17 @@ fn go_on(
     from: usize,
     indices: &mut [u16],
 )
-    requires { ⌜ Fits frame (length (now h)) (length (now g)) (length (now aux)) × (length (now keys) ≤ length (now indices)) ⌝ }
+    requires { ⌜ Room frame (length (now h)) (length (now g)) (length (now aux)) (length (now keys)) (length (now indices)) ⌝ }
     ensures { λ _. ⌜ ((u : Record) → Opened u (lent (now (h .entry)) (now (g .entry)) (now (aux .entry))) frame (now (tables .entry))
         → (old : List ℕ) → Done (lookupOf u (lent (now (h .entry)) (now (g .entry)) (now (aux .entry)))) (now (keys .entry)) old (now (indices .entry)) from
+        → Refused (lookupOf u (lent (now (h .entry)) (now (g .entry)) (now (aux .entry)))) (now (keys .entry)) from
         → Done (lookupOf u (lent (now (h .entry)) (now (g .entry)) (now (aux .entry)))) (now (keys .entry)) old (now (indices .exit)) (length (now (keys .entry)))) ⌝ }
 {
     let mut i = from;
     while i < keys.len() {
-        let hit = find(frame, tables, h, g, aux, keys[i]);
-        indices[i] = hit.index;
-        i += 1;
+        indices[i] = 0;
+        let next = run(frame, tables, h, g, aux, keys, i + 1, indices);
+        i = next.place;
     }
 }
 
@@ -178,19 +165,16 @@ pub(crate) fn all(
     keys: &[u64],
     indices: &mut [u16],
 ) -> Many
-    requires { ⌜ Fits frame (length (now h)) (length (now g)) (length (now aux)) × (length (now keys) ≤ length (now indices)) ⌝ }
+    requires { ⌜ Room frame (length (now h)) (length (now g)) (length (now aux)) (length (now keys)) (length (now indices)) ⌝ }
     ensures { λ r. ⌜ ((u : Record) → Opened u (lent (now (h .entry)) (now (g .entry)) (now (aux .entry))) frame (now (tables .entry))
         → left r (now (indices .exit)) ≡ leftBy (lookupOf u (lent (now (h .entry)) (now (g .entry)) (now (aux .entry)))) (now (keys .entry)) (now (indices .entry))) ⌝ }
 {
-    let first = start(frame, tables, h, g, aux, keys, indices);
-    if first.refusal == 0 {
-        return Many {
-            refusal: 0,
-            place: 0,
-        };
-    }
+    let first = run(frame, tables, h, g, aux, keys, 0, indices);
     go_on(frame, tables, h, g, aux, keys, first.place, indices);
-    first
+    if first.refusal == 0 {
+        return crate::refused(0, 0);
+    }
+    crate::refused(first.refusal, first.place + 1)
 }
 
 // The answer where the unit is not well formed: every key is refused.

@@ -12,7 +12,7 @@ use Rattle.lookup.proofs.Lookups.{lookup-unformed}
 use Rattle.many.specs.Inner.Images.{imageMasks}
 use Rattle.many.proofs.Linear.{number-linear}
 use Rattle.many.proofs.Masking.{image-masks}
-use Rattle.many.proofs.Answers.{frame-fits}
+use Rattle.many.proofs.Answers.{frame-room}
 use Rattle.many.proofs.Keys.{many-short, many-by, many-same}
 use borrow.Author.Needs.{needs}
 use Rattle.many.proofs.lookup_many.Statement.{statement}
@@ -50,7 +50,7 @@ lookup-many-spec =
     (λ c κs.
     let d = c .before .before .before .before .before .before .before .before in
     let s = d .before .before .before .before .before .before .before .before in
-    (frame-fits (s .args .unit) (tables s) _ (facts d) (c .before .before .before .before .before .before .before .framed .ensures), d .before .before .if1 .left))
+    frame-room (s .args .unit) (tables s) _ _ _ (facts d) (c .before .before .before .before .before .before .before .framed .ensures) (d .before .before .if1 .left))
     (λ c. search needs)
     (λ c.
     let d = c .before .before .before .before .before .before .before .before .before .before .before in

@@ -10,9 +10,7 @@ use Rattle.record.specs.declared.Record.{Record}
 use Rattle.record.specs.Record.{kindsIn}
 use Rattle.record.specs.Tables.{Tables}
 use Rattle.record.specs.Formed.{wellFormed}
-use Rattle.lookup.specs.declared.Found.{Found}
 use Rattle.many.specs.declared.find.Frame.{Frame}
-use Rattle.many.specs.declared.find.Hit.{Hit}
 use Rattle.many.specs.Image.{imageOf}
 
 -- the bits of a mask, each as a mask of its own: d of them looked at, the lowest at place j
@@ -65,13 +63,18 @@ pub record FrameOf (u : Record) (f : Frame) : Type 0 where
   pub cells : f .cells ≡ u .cells
   pub k : f .k ≡ u .k
 
--- the tables of the unit are long enough for what a frame reads
-pub record Fits (f : Frame) (h g aux : ℕ) : Type 0 where
+-- H and G are long enough for what a frame reads
+pub record Fits (f : Frame) (h g : ℕ) : Type 0 where
   pub shift-low : f .shift ≤ maxSide
   pub columns-low : f .columns < 2 ^ maxSide
   pub rows-held : f .rows < h
   pub cells-held : f .cells ≤ g
+
+-- so is AUX, and there is a word for the index of each key
+pub record Room (f : Frame) (h g aux keys indices : ℕ) : Type 0 where
+  pub fits : Fits f h g
   pub words-held : f .k < aux
+  pub indices-held : keys ≤ indices
 
 -- a unit that is well formed, with its tables of images
 pub record Opened (u : Record) (t : Tables) (f : Frame) (images : List ℕ) : Type 0 where
@@ -79,7 +82,3 @@ pub record Opened (u : Record) (t : Tables) (f : Frame) (images : List ℕ) : Ty
   pub formed : wellFormed u t ≡ true
   pub tabled : Tabled wordBytes (numberBy (imageMasks u)) images
   pub image : (x : ℕ) → x < 2 ^ maxInputs → numberBy (imageMasks u) x ≡ imageOf u x
-
-pub record HitIs (f : Found) (r : Hit) : Type 0 where
-  pub refusal : r .refusal ≡ f .refusal
-  pub index : r .index ≡ f .index

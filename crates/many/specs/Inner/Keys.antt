@@ -1,19 +1,23 @@
 -- The keys looked up so far.
-use Prim.Native.Nat.{ℕ}
+use Prim.Native.Nat.{ℕ, suc, _<_}
 use mathlib.Core.Path.{_≡_}
 use mathlib.Core.List.{List, map}
-use lib.ListN.{length}
+use lib.ListN.{length, getD, drop}
 use Rattle.lists.proofs.Writing.Storing.{Storing}
 use Rattle.lookup.specs.declared.Found.{Found}
 use Rattle.many.specs.declared.Many.{Many}
-use Rattle.many.specs.Lookups.{refusedAt, firstRefused}
+use Rattle.many.specs.Lookups.{refusedAt, orElse, firstRefused}
 
 -- the indices of the first i keys are stored over old, which left l
 abbrev pub Done : (ℕ → Found) → List ℕ → List ℕ → List ℕ → ℕ → Type 0
 Done look keys old l i = Storing (map (λ x. look x .index) keys) old 0 l i
 
--- after the first key that is refused, or after all
-pub record Stopped (look : ℕ → Found) (keys old l : List ℕ) (r : Many) : Type 0 where
+-- the key after the first i, if there is one, has the index 0
+abbrev pub Refused : (ℕ → Found) → List ℕ → ℕ → Type 0
+Refused look keys i = i < length keys → look (getD keys i 0) .index ≡ 0
+
+-- the keys from one on, up to the first that is refused: r has its refusal, and how many keys are done before it
+pub record Stopped (look : ℕ → Found) (keys old : List ℕ) (from : ℕ) (l : List ℕ) (r : Many) : Type 0 where
   pub stored : Done look keys old l (r .place)
-  pub none : r .refusal ≡ 0 → (r .place ≡ length keys) × (refusedAt 0 0 ≡ firstRefused look 1 keys)
-  pub some : (r .refusal ≡ 0 → ⊥) → r ≡ firstRefused look 1 keys
+  pub first : orElse (r .refusal) (suc (r .place)) (refusedAt 0 0) ≡ firstRefused look (suc from) (drop from keys)
+  pub refused : Refused look keys (r .place)
