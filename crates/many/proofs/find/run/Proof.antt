@@ -1,5 +1,5 @@
 -- `many::find::run` meets its contract. Assumes nothing.
-use Prim.Native.Nat.{ℕ, _-_, _≤_}
+use Prim.Native.Nat.{ℕ, _-_, _≤_, _<_}
 use native.Mathlib.Omega.{arith}
 use mathlib.Core.Path.{_≡_, refl, _∙_}
 use mathlib.Core.List.{List}
@@ -39,6 +39,9 @@ key l = getD (start l .args .keys .now) (l .loop .i) 0
 abbrev Open : tie.At-loop Inv-loop μ-loop → Record → Type 0
 Open l u = Opened u (tables l) (start l .args .frame) (start l .args .tables .now)
 
+key-there : (c : tie.In-loop Inv-loop μ-loop) → c .before .loop .i < length (start (c .before) .args .keys .now)
+key-there c = omega arith
+
 image-is : (c : tie.After-image Inv-loop μ-loop) (u : Record) → Open (c .before .before .before .before .before) u → c .image .result ≡ imageOf u (key (c .before .before .before .before .before))
 image-is c u o =
     c .image .ensures (numberBy (imageMasks u)) (number-linear (imageMasks u)) (o .tabled)
@@ -56,14 +59,14 @@ held-requires c κs = start (c .before .before .before .before .before .before) 
 returns : tie.Need-returns Inv-loop μ-loop
 returns c =
     let l = c .before .before .before .before in
-    (l .loop .inv .0, l .loop .inv .1, λ u o old d. stage-stop _ _ old _ _ _ (l .loop .inv .3 u o old d) (c .before .before .before .loop-test .taken) 5 (key-beyond u _ _ _ o _ (c .if1 .taken)))
+    (l .loop .inv .0, l .loop .inv .1, λ u o old d. stage-stop _ _ old _ _ _ (l .loop .inv .3 u o old d) (key-there (c .before .before .before)) 5 (key-beyond u _ _ _ o _ (c .if1 .taken)))
 
 returns-2 : tie.Need-returns-2 Inv-loop μ-loop
 returns-2 c =
     let l = c .before .before .before .before .before .before .before .before .before in (
       l .loop .inv .0,
       l .loop .inv .1,
-      λ u o old d. stage-stop _ _ old _ _ _ (l .loop .inv .3 u o old d) (c .before .before .before .before .before .before .before .before .loop-test .taken) 13
+      λ u o old d. stage-stop _ _ old _ _ _ (l .loop .inv .3 u o old d) (key-there (c .before .before .before .before .before .before .before .before)) 13
           (key-above u _ _ _ o _ (c .before .before .before .before .before .if1 .left) _ (held-is (c .before .before) u o) (c .if2 .taken)),
     )
 
@@ -79,14 +82,14 @@ loop-again c =
       omega arith,
       omega arith,
       length-set (l .loop .indices) _ _ ∙ l .loop .inv .2,
-      λ u o old d. stage-more _ _ old _ _ _ (l .loop .inv .3 u o old d) (c .before .before .before .before .before .before .before .before .before .loop-test .taken) _
+      λ u o old d. stage-more _ _ old _ _ _ (l .loop .inv .3 u o old d) (key-there (c .before .before .before .before .before .before .before .before .before)) _
           (key-found u _ _ _ o _ (c .before .before .before .before .before .before .if1 .left) _ (held-is (c .before .before .before) u o) _ _ (c .before .if2 .left) (word-of u _ _ _ (o .frame) (image-is (c .before .before .before .before .before) u o)) (c .matched .ensures)),
     )
 
 returns-3 : tie.Need-returns-3 Inv-loop μ-loop
 returns-3 c =
     let l = c .before in
-    (l .loop .inv .0, l .loop .inv .1, λ u o old d. stage-all _ _ old _ _ _ (l .loop .inv .3 u o old d) (c .loop-test .left))
+    (l .loop .inv .0, l .loop .inv .1, λ u o old d. stage-all _ _ old _ _ _ (l .loop .inv .3 u o old d) (omega arith))
 
 pub run-spec : {M : Type 1} → statement M
 run-spec =
