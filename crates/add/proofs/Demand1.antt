@@ -33,7 +33,7 @@ use Rattle.build.specs.declared.Refusal.{Refusal}
 use Rattle.build.specs.Refusals as refusals
 use Rattle.build.specs.Refusals.{orElse, ladder}
 use Rattle.build.specs.Build.{Outcome}
-use Rattle.build.proofs.Refusing.Ladder.{ladder-append, or-given, or-passed}
+use Rattle.build.proofs.Refusing.Ladder.{ladder-append, or-given, or-passed, refusalOf}
 use Rattle.unit.specs.Demand1.{Cause, Gives, cause, Agree}
 use Rattle.unit.proofs.Demand1.Ladder.{Answers, AnswersAll, ladder-gives, answers-one, gives-one, if-answers}
 use Rattle.unit.proofs.Demand1.Entries.{first-answers}
@@ -171,10 +171,6 @@ module _ (u : Record) (t : Tables) (x : ℕ) where
   )
 
   -- ---- the refusal given
-
-  -- number and place of an outcome
-  abbrev refusalOf : Outcome → Refusal
-  refusalOf o = record { number = o .built .refusal; place = o .built .place }
 
   rungs-are : addRefusal u t x ≡ ladder (rungs u t x)
   unfolding addRefusal

@@ -96,31 +96,22 @@ module _ (u : Record) (t : Tables) (cell : ℕ) where
   pub cell-holds : (i : ℕ) → firstCell u t i ≡ suc cell → getD (t .g) cell 0 ≡ i
   cell-holds i e = sym (getD-take (u .cells) (t .g) cell 0 (cell-low i e)) ∙ first-equal _ _ _ e .equal
 
+  number-none : ((i : ℕ) → 0 < i → i ≤ u .k → firstCell u t i ≡ suc cell → ⊥) → NumberAt u t cell 0
+  number-none n = record { only = λ i p q e. absurd (n i p q e); some = λ z. absurd (omega arith) }
+
   pub number-out : u .cells ≤ cell → NumberAt u t cell 0
-  number-out l = record { only = λ i p q e. absurd (omega (arith, cell-low i e)); some = λ z. absurd (omega arith) }
+  number-out l = number-none (λ i p q e. omega (arith, cell-low i e))
 
   module _ (i : ℕ) (h : i ≡ getD (t .g) cell 0) where
     pub number-outside : outside 1 (u .k) i ≡ true → NumberAt u t cell 0
-    number-outside o =
-        record {
-          only = λ j p q e.
-              let z : i ≡ j = h ∙ cell-holds j e in
-              absurd (true≢false (sym o ∙ rw (z, le-ltb j 1 p, le-ltb (u .k) j q)));
-          some = λ z. absurd (omega arith);
-        }
+    number-outside o = number-none (λ j p q e. let z : i ≡ j = h ∙ cell-holds j e in true≢false (sym o ∙ rw (z, le-ltb j 1 p, le-ltb (u .k) j q)))
 
     module _ (firsts : List ℕ) (f : FirstsAre u t firsts) (o : outside 1 (u .k) i ≡ false) where
       first-is : getD firsts i 0 ≡ firstCell u t i
       first-is = let p = inside 1 (u .k) i o in f i (p .0) (p .1)
 
       pub number-later : (getD firsts i 0 ≡ cell + 1 → ⊥) → NumberAt u t cell 0
-      number-later n =
-          record {
-            only = λ j p q e.
-                let z : i ≡ j = h ∙ cell-holds j e in
-                absurd (n (first-is ∙ ap (firstCell u t) z ∙ e ∙ sym (add-one cell)));
-            some = λ z. absurd (omega arith);
-          }
+      number-later n = number-none (λ j p q e. let z : i ≡ j = h ∙ cell-holds j e in n (first-is ∙ ap (firstCell u t) z ∙ e ∙ sym (add-one cell)))
 
       pub number-here : getD firsts i 0 ≡ cell + 1 → NumberAt u t cell i
       number-here e = record { only = λ j p q r. h ∙ cell-holds j r; some = λ z. (inside 1 (u .k) i o .1, sym first-is ∙ e ∙ add-one cell) }

@@ -1,13 +1,11 @@
 -- Vectors added to sample units, computed (SCOPE 22.8).
 use Prim.Native.Nat.{ℕ}
 use mathlib.Core.Path.{_≡_, refl}
-use mathlib.Core.List.{List, [], _∷_}
+use mathlib.Core.List.{[], _∷_}
 use lib.IntN.{pos}
-use lib.ListN.{replicate}
 use Rattle.vectors.specs.declared.Kind.the-variants.{One}
-use Rattle.record.specs.declared.Record.{Record}
 use Rattle.record.specs.Record.{markAmended}
-use Rattle.record.specs.Tables.{Tables, lent}
+use Rattle.record.specs.Tables.{lent}
 use Rattle.build.specs.Build.{Outcome, buildChosen, buildGiven, refused}
 use Rattle.unit.specs.Samples.{S, nines, given}
 use Rattle.lookup.specs.Lookup.{found, lookupOf}

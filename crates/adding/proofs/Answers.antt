@@ -8,7 +8,7 @@ use Rattle.build.specs.declared.Built.{Built}
 use Rattle.build.specs.Build.{Outcome, after}
 use Rattle.build.proofs.Places.{placeLimit}
 use Rattle.add.specs.Add.{addOf}
-use Rattle.add.proofs.Places.{add-place}
+use Rattle.add.proofs.Places.{add-small}
 use Rattle.flat.specs.Flat.{flatOf, unitSeen}
 use Rattle.bridge.specs.Calls.{left, answer}
 use Rattle.adding.specs.Calls.{wordsAfter, addedTo, addCall}
@@ -33,7 +33,7 @@ module _ (words : List ℕ) (t : Tables) (x : ℕ) (u : Record) (v : u ≡ unitS
   o = addOf u t x
 
   pub place-fits : r .place < placeLimit
-  place-fits = rw (ap (λ (o : Outcome). o .built .place) e) (add-place u t x)
+  place-fits = rw (ap (λ (o : Outcome). o .built .place) e) (add-small u t x .place-low)
 
   module _ (a : ℕ) (i : a ≡ answer (r .refusal) (r .place)) where
     left-is : (ws : List ℕ) → ws ≡ wordsAfter words o → left a ws (lent h g aux) ≡ addCall words t x

@@ -3,15 +3,15 @@ use Prim.Native.Nat.{ℕ, zero, suc, _+_, _≤_, _<_}
 use native.Mathlib.Numerals.{add-one}
 use native.Mathlib.Omega.{arith}
 use mathlib.Core.Path.{_≡_, refl, sym, ap, _∙_}
-use mathlib.Core.Bool.{Bool, true, false}
+use mathlib.Core.Bool.{true, false}
 use mathlib.Core.List.{List, [], _∷_}
 use lib.ListN.{length, getD, drop, drop-of-length-le}
 use lib.Seq.{drop-cons}
 use Rattle.record.specs.declared.Record.{Record}
-use Rattle.record.specs.Tables.{Tables, lent}
+use Rattle.record.specs.Tables.{Tables}
 use Rattle.record.specs.Formed.{sound}
 use Rattle.build.specs.declared.Built.{Built}
-use Rattle.build.specs.Build.{Outcome, after, accepted}
+use Rattle.build.specs.Build.{Outcome, accepted}
 use Rattle.add.specs.Add.{addOf}
 use Rattle.add.proofs.Adding.Sound.{added-built, added-sound}
 use Rattle.print.specs.Print.{fitted}

@@ -1,7 +1,7 @@
 -- What is written for any keys fits 64 KiB. Assumes nothing.
-use Prim.Native.Nat.{ℕ, _^_, _≤_, _<_}
+use Prim.Native.Nat.{ℕ, _≤_}
 use native.Mathlib.Omega.{arith}
-use mathlib.Core.Path.{_≡_, refl, sym, ap, _∙_}
+use mathlib.Core.Path.{_≡_, refl, ap}
 use mathlib.Core.Bool.{Bool, true, false}
 use mathlib.Core.List.{List, [], _∷_}
 use borrow.Author.Tests.{eqb-true, eqb-false}
@@ -10,9 +10,10 @@ use lib.ListN.{length}
 use Rattle.record.specs.declared.Record.{Record}
 use Rattle.record.specs.Tables.{Tables}
 use Rattle.build.specs.Build.{Outcome}
-use Rattle.build.proofs.Places.{placeLimit}
+use Rattle.build.proofs.Refusing.Ladder.{refusalOf}
+use Rattle.build.proofs.Places.{Small, none-small}
 use Rattle.add.specs.Add.{addOf}
-use Rattle.add.proofs.Places.{add-place, add-number}
+use Rattle.add.proofs.Places.{add-small}
 use Rattle.print.proofs.Pages.Sizes.{refused-low}
 use Rattle.file.proofs.Outcomes.{file-few}
 use Rattle.pack.specs.Pack.{pageSize, packed}
@@ -23,16 +24,14 @@ use Rattle.amend.specs.Amend.{addAll, amendText}
 use Rattle.amend.proofs.Adds.{next-added, next-refused, some-sound, amend-bad, amend-all}
 
 -- the refusal of several additions is that of one of them
-all-low : (xs : List ℕ) (u : Record) (t : Tables) → (addAll u t xs .built .refusal ≤ 40) × (addAll u t xs .built .place < placeLimit)
+all-small : (xs : List ℕ) (u : Record) (t : Tables) → Small 40 (refusalOf (addAll u t xs))
 unfolding addAll
-all-low [] u t = (omega arith, omega arith)
-all-low (x ∷ xs) u t = go (eqb (addOf u t x .built .refusal) 0) refl (all-low xs (addOf u t x .built .unit) (addOf u t x .tables))
+all-small [] u t = none-small 40
+all-small (x ∷ xs) u t = go (eqb (addOf u t x .built .refusal) 0) refl (all-small xs (addOf u t x .built .unit) (addOf u t x .tables))
   where
-    go : (b : Bool) → eqb (addOf u t x .built .refusal) 0 ≡ b
-        → (addAll (addOf u t x .built .unit) (addOf u t x .tables) xs .built .refusal ≤ 40) × (addAll (addOf u t x .built .unit) (addOf u t x .tables) xs .built .place < placeLimit)
-        → (addAll u t (x ∷ xs) .built .refusal ≤ 40) × (addAll u t (x ∷ xs) .built .place < placeLimit)
+    go : (b : Bool) → eqb (addOf u t x .built .refusal) 0 ≡ b → Small 40 (refusalOf (addAll (addOf u t x .built .unit) (addOf u t x .tables) xs)) → Small 40 (refusalOf (addAll u t (x ∷ xs)))
     go true q h = rw (next-added u t x xs (eqb-true (addOf u t x .built .refusal) 0 q)) h
-    go false q h = rw (next-refused u t x xs (eqb-false (addOf u t x .built .refusal) 0 q)) (add-number u t x, add-place u t x)
+    go false q h = rw (next-refused u t x xs (eqb-false (addOf u t x .built .refusal) 0 q)) (add-small u t x)
 
 module _ (text : List ℕ) (u : Record) (t : Tables) where
   abbrev o : Outcome
@@ -46,8 +45,8 @@ module _ (text : List ℕ) (u : Record) (t : Tables) where
           let e = eqb-true (o .built .refusal) 0 q in
           omega (arith, file-few (o .built .unit) (o .tables) (some-sound (valuesIn text) u t (values-some text g) e), ap length (packed-accepted o e))
       go false q =
-          let b = all-low (valuesIn text) u t in
-          omega (arith, refused-low (o .built .refusal) (o .built .place) (omega (arith, b .0)) (omega (arith, b .1)), ap length (packed-refused o (eqb-false (o .built .refusal) 0 q)))
+          let b = all-small (valuesIn text) u t in
+          omega (arith, refused-low (o .built .refusal) (o .built .place) (omega arith) (omega arith), ap length (packed-refused o (eqb-false (o .built .refusal) 0 q)))
 
   -- of every text
   pub amend-fits : length (amendText text u t) ≤ pageSize

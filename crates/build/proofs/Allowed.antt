@@ -1,7 +1,7 @@
 -- Builds with an allowance of tries: when one is refused by 41, and what another allowance alters. Assumes nothing.
 use Prim.Native.Nat.{ℕ, suc, _*_, _^_, _≤_, _<_}
 use native.Mathlib.Omega.{arith}
-use mathlib.Core.Path.{_≡_, refl, sym, ap, _∙_}
+use mathlib.Core.Path.{_≡_, sym, ap, _∙_}
 use mathlib.Core.List.{List}
 use lib.ListN.{length, replicate, length-replicate}
 use Rattle.vectors.specs.declared.Kind.{Kind}

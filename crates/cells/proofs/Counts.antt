@@ -1,7 +1,7 @@
 -- What is written, from what is read, built and counted. Assumes nothing.
-use Prim.Native.Nat.{ℕ, zero, suc, _-_, _≤_, _<_}
+use Prim.Native.Nat.{ℕ, _-_, _≤_, _<_}
 use native.Mathlib.Omega.{arith}
-use mathlib.Core.Path.{_≡_, refl, sym, ap, _∙_}
+use mathlib.Core.Path.{_≡_, sym, ap, _∙_}
 use mathlib.Core.Bool.{true, false}
 use mathlib.Core.List.{List, [], _∷_}
 use mathlib.Core.Logic.{⊎-elim}
@@ -17,7 +17,7 @@ use Rattle.rows.proofs.Fits.Needed.{past-free}
 use Rattle.input.specs.declared.Input.{Input}
 use Rattle.input.specs.Input.{maxListed, numbersIn, inputFrom, inputOf}
 use Rattle.print.specs.Print.{fitted, refusedText}
-use Rattle.print.specs.Sentence.{sentence, sentenceOf}
+use Rattle.print.specs.Sentence.{sentenceOf}
 use Rattle.print.proofs.Sentences.{sentence-few}
 use Rattle.answer.specs.Make.{roomy, programAllowance}
 use Rattle.answer.specs.Answer.{inputText}

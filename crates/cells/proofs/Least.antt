@@ -1,9 +1,9 @@
 -- What is written of an accepted list is its least L. Assumes nothing.
-use Prim.Native.Nat.{ℕ, _≤_}
+use Prim.Native.Nat.{ℕ}
 use native.Mathlib.Omega.{arith}
-use mathlib.Core.Path.{_≡_, refl, ap, _∙_}
+use mathlib.Core.Path.{_≡_, ap, _∙_}
 use mathlib.Core.List.{List}
-use lib.ListN.{length, getD, take, drop, replicate, length-append, length-drop, length-replicate}
+use lib.ListN.{length, getD, take, drop, length-append, length-drop, length-replicate}
 use lib.Seq.{take-all}
 use Rattle.vectors.specs.declared.Kind.{Kind}
 use Rattle.vectors.specs.Bounds.{maxCells}

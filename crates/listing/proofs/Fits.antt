@@ -11,10 +11,8 @@ use Rattle.lists.proofs.Entries.Alls.{at-all}
 use Rattle.vectors.specs.Bounds.{maxInputs, maxVectors}
 use Rattle.record.specs.declared.Record.{Record}
 use Rattle.record.specs.Tables.{Tables}
-use Rattle.record.proofs.Formed.{well-formed-facts, few-words}
-use Rattle.record.proofs.Soundness.{sound-says}
 use Rattle.recover.specs.Every.{listed, listIn}
-use Rattle.recover.proofs.Every.{listed-sound, listed-length, listed-entry}
+use Rattle.recover.proofs.Every.{listed-formed, listed-few, listed-length, listed-entry}
 use Rattle.print.specs.Line.{lines}
 use Rattle.print.proofs.Pages.Sizes.{lines-low, refused-low}
 use Rattle.listing.specs.Listing.{listText}
@@ -26,10 +24,10 @@ listSize = 24576
 
 module _ (u : Record) (t : Tables) (L : listed u t ≡ true) where
   inputs : u .n ≤ maxInputs
-  inputs = well-formed-facts u t (sound-says u t (listed-sound u t L) .well-formed) .bounds .inputs
+  inputs = listed-formed u t L .bounds .inputs
 
   few : u .k ≤ maxVectors
-  few = few-words u t (sound-says u t (listed-sound u t L) .well-formed) .0
+  few = listed-few u t L .0
 
   vectors-low : All (λ x. x < 10 ^ 20) (listIn u t)
   vectors-low =

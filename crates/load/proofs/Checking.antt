@@ -1,36 +1,18 @@
--- Blocks tested one after the other, and the numbers of a record in bounds. Assumes nothing.
+-- Blocks tested one after the other. Assumes nothing.
 use mathlib.Core.Path.{_≡_, refl, sym, ap, ap₂, _∙_}
-use mathlib.Core.Bool.{Bool, true, false, not, _&&_}
+use mathlib.Core.Bool.{Bool, true, false, _&&_}
 use mathlib.Core.List.{List}
 use Prim.Native.Nat.{ℕ, suc, _+_, _-_, _*_, _/_, _%_, _≤_, _<_, min}
 use native.Mathlib.Numerals.{add-one}
 use native.Mathlib.Omega.{arith}
-use lib.Dec.{leb}
 use lib.ListN.{length, take, drop}
 use lib.Seq.{drop-drop}
-use borrow.Author.Tests.{not-true}
-use Rattle.lists.proofs.Tests.{and-true}
-use Rattle.vectors.specs.Bounds.{maxInputs, maxVectors, maxCells, outside, tooMany}
-use Rattle.record.specs.declared.Record.{Record}
-use Rattle.record.specs.Formed.{inBounds}
-use Rattle.record.proofs.Formed.{inside}
 use Rattle.block.specs.Block.{blockSize, payloadAt, rightCheck}
 use Rattle.file.specs.Read.{rightChecks}
 use Rattle.block.specs.Look.{laidOut}
 use Rattle.file.specs.File.{opening}
 use Rattle.load.specs.Inner.Whole.{Whole}
 use Rattle.load.specs.Inner.Laid.{payloadSize, tableLaid}
-
-pub numbers-few : (u : Record) → inBounds u ≡ true → (u .k ≤ maxVectors) × (u .cells ≤ maxCells)
-numbers-few u h =
-    let a : Bool = not (outside 1 maxInputs (u .n)) in
-    let b : Bool = not (outside 1 maxVectors (u .k)) in
-    let c : Bool = not (outside 1 maxCells (u .cells)) in
-    let p = and-true (a && b && c && leb (u .p) (u .n)) (not (tooMany (u .p) (u .n1))) h in
-    let q = and-true (a && b && c) (leb (u .p) (u .n)) (p .0) in
-    let r = and-true (a && b) c (q .0) in
-    let s = and-true a b (r .0) in
-    (inside 1 maxVectors (u .k) (not-true _ (s .1)) .1, inside 1 maxCells (u .cells) (not-true _ (r .1)) .1)
 
 -- at a place: what is left to test decides
 pub record Checking (file : List ℕ) (at : ℕ) : Type 0 where

@@ -15,7 +15,7 @@ use Rattle.lookup.specs.declared.Found.{Found}
 use Rattle.record.specs.Tables.{over}
 use Rattle.lookup.specs.Lookup.{found, notFound}
 use Rattle.many.specs.declared.Many.{Many}
-use Rattle.many.specs.Lookups.{refusedAt, orElse, firstRefused, Left, left, leftBy, lookupMany}
+use Rattle.many.specs.Lookups.{refusedAt, orElse, firstRefused, left, leftBy, lookupMany}
 use Rattle.many.specs.Inner.Keys.{Done, Stopped}
 use Rattle.many.proofs.Stored.{stored-more, stored-all}
 

@@ -1,10 +1,10 @@
 -- What the tests of a well-formed unit say. Assumes nothing.
 use Prim.Native.Nat.{ℕ, _-_, _^_, _≤_}
 use mathlib.Core.Path.{_≡_, refl, sym, _∙_}
-use mathlib.Core.Bool.{Bool, true, false, not, _&&_}
+use mathlib.Core.Bool.{Bool, true, false, _&&_}
 use borrow.Author.Tests.{ltb-true, ltb-false, leb-true, eqb-true, not-true}
 use lib.Count.{ones}
-use lib.Dec.{eqb, leb, ltb}
+use lib.Dec.{eqb, ltb}
 use Rattle.lists.proofs.Tests.{and-true, and-unit, or-false}
 use Rattle.lists.proofs.Finding.NonePass.{none-all}
 use Rattle.vectors.specs.Variable.{faulty, firstFaulty}
@@ -38,20 +38,33 @@ few p n1 h =
       columns-few = ltb-false maxSide (p - n1) (c .1);
     }
 
-pub in-bounds : (u : Record) → inBounds u ≡ true → InBounds u
-in-bounds u h =
+-- what the tests of the numbers say
+pub record Numbers (u : Record) : Type 0 where
+  pub inputs : (1 ≤ u .n) × (u .n ≤ maxInputs)
+  pub vectors : (1 ≤ u .k) × (u .k ≤ maxVectors)
+  pub cells : (1 ≤ u .cells) × (u .cells ≤ maxCells)
+  pub within : u .p ≤ u .n
+  pub sides : Few (u .p) (u .n1)
+
+pub numbers : (u : Record) → inBounds u ≡ true → Numbers u
+numbers u h =
     let split = and-true _ _ h in
     let all = and-true _ _ (split .0) in
-    let n = and-true _ _ (and-true _ _ (all .0) .0) in
-    let sides = few (u .p) (u .n1) (not-true _ (split .1)) in
+    let words = and-true _ _ (all .0) in
+    let n = and-true _ _ (words .0) in
     record {
-      inputs = inside 1 maxInputs (u .n) (not-true _ (n .0)) .1;
+      inputs = inside 1 maxInputs (u .n) (not-true _ (n .0));
+      vectors = inside 1 maxVectors (u .k) (not-true _ (n .1));
+      cells = inside 1 maxCells (u .cells) (not-true _ (words .1));
       within = leb-true _ _ (all .1);
-      few = sides .all-few;
-      rows-in = sides .rows-in;
-      rows-few = sides .rows-few;
-      columns-few = sides .columns-few;
+      sides = few (u .p) (u .n1) (not-true _ (split .1));
     }
+
+pub in-bounds : (u : Record) → inBounds u ≡ true → InBounds u
+in-bounds u h =
+    let b = numbers u h in
+    let s = b .sides in
+    record { inputs = b .inputs .1; within = b .within; few = s .all-few; rows-in = s .rows-in; rows-few = s .rows-few; columns-few = s .columns-few }
 
 right-inputs : (u : Record) → rightInputs u ≡ true → RightInputs u
 right-inputs u h =
@@ -106,15 +119,10 @@ module _ (u : Record) (t : Tables) where
   pub formed-right : (b : Bool) → framedBy u t ≡ true → b ≡ eqb (firstFaulty (u .n) (kindsIn u)) 0 → b ≡ wellFormed u t
   formed-right b f e = e ∙ sym (formed-is ∙ rw f)
 
+pub formed-numbers : (u : Record) (t : Tables) → wellFormed u t ≡ true → Numbers u
+unfolding wellFormed
+formed-numbers u t h = numbers u (and-true (inBounds u) (rightInputs u) (and-true (inBounds u && rightInputs u) (longEnough u t) h .0) .0)
+
 -- few vectors and cells
 pub few-words : (u : Record) (t : Tables) → wellFormed u t ≡ true → (u .k ≤ maxVectors) × (u .cells ≤ maxCells)
-unfolding wellFormed
-few-words u t h =
-    let n = not (outside 1 maxInputs (u .n)) in
-    let k = not (outside 1 maxVectors (u .k)) in
-    let c = not (outside 1 maxCells (u .cells)) in
-    let p = leb (u .p) (u .n) in
-    let right = and-true (inBounds u) (rightInputs u) (and-true (inBounds u && rightInputs u) (longEnough u t) h .0) in
-    let within = and-true (n && k && c && p) (not (tooMany (u .p) (u .n1))) (right .0) in
-    let cells = and-true (n && k) c (and-true (n && k && c) p (within .0) .0) in
-    (inside 1 maxVectors (u .k) (not-true _ (and-true n k (cells .0) .1)) .1, inside 1 maxCells (u .cells) (not-true _ (cells .1)) .1)
+few-words u t h = let b = formed-numbers u t h in (b .vectors .1, b .cells .1)

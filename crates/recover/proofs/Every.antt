@@ -3,45 +3,33 @@ use Prim.Native.Nat.{ℕ, zero, suc, _+_, _-_, _^_, _≤_, _<_}
 use native.Mathlib.Nat.{add-zero}
 use native.Mathlib.Omega.{arith}
 use mathlib.Core.Path.{_≡_, refl, sym, ap, _∙_}
-use mathlib.Core.Bool.{true, not, _&&_}
+use mathlib.Core.Bool.{true}
 use mathlib.Core.List.{List, _∷_, map}
-use borrow.Author.Tests.{eqb-true, not-true}
-use lib.Dec.{eqb, leb}
+use borrow.Author.Tests.{eqb-true}
+use lib.Dec.{eqb}
 use lib.ListN.{length, getD, take, drop, drop-of-length-le, length-map}
 use lib.Seq.{drop-cons}
 use Rattle.lists.specs.First.{repeated}
 use Rattle.lists.proofs.Tests.{and-true}
 use Rattle.lists.proofs.Entries.Members.{getD-map}
 use Rattle.lists.proofs.Finding.Repeats.{repeated-none}
-use Rattle.vectors.specs.Bounds.{maxInputs, maxVectors, maxCells, maxWords, outside, tooMany}
+use Rattle.vectors.specs.Bounds.{maxVectors, maxCells, maxWords}
 use Rattle.vectors.specs.Variable.{numberOf, rowOf, columnOf}
 use Rattle.vectors.proofs.Variables.Numbers.{number-split, parts, row-lt}
 use Rattle.record.specs.declared.Record.{Record}
 use Rattle.record.specs.Record.{kindsIn}
 use Rattle.record.specs.Tables.{Tables}
-use Rattle.record.specs.Formed.{inBounds, rightInputs, longEnough, wellFormed, sound}
+use Rattle.record.specs.Formed.{wellFormed, sound}
 use Rattle.record.specs.Leads.{cellIn}
 use Rattle.record.specs.Holds.{Holds}
-use Rattle.record.proofs.Formed.{inside, few-words}
+use Rattle.record.specs.Inner.Formed.{WellFormed}
+use Rattle.record.proofs.Formed.{well-formed-facts, formed-numbers, few-words}
 use Rattle.record.proofs.Soundness.{sound-says}
 use Rattle.recover.specs.Recover.{firstCell, recoverOf}
 use Rattle.recover.specs.Every.{allGiven, vectorsFrom, listed, listIn, firstsIn}
 use Rattle.recover.proofs.Firsts.{firsts-of, sound-firsts}
 use Rattle.recover.proofs.Recovery.{OneVector, recovered-one}
 use Rattle.recover.proofs.Exact.{holds-recover}
-
--- a well-formed unit has a vector
-some-vector : (u : Record) (t : Tables) → wellFormed u t ≡ true → 0 < u .k
-unfolding wellFormed
-some-vector u t h =
-    let n = not (outside 1 maxInputs (u .n)) in
-    let k = not (outside 1 maxVectors (u .k)) in
-    let c = not (outside 1 maxCells (u .cells)) in
-    let p = leb (u .p) (u .n) in
-    let right = and-true (inBounds u) (rightInputs u) (and-true (inBounds u && rightInputs u) (longEnough u t) h .0) in
-    let within = and-true (n && k && c && p) (not (tooMany (u .p) (u .n1))) (right .0) in
-    let cells = and-true (n && k) c (and-true (n && k && c) p (within .0) .0) in
-    inside 1 maxVectors (u .k) (not-true _ (and-true n k (cells .0) .1)) .0
 
 module _ (u : Record) (t : Tables) where
   pub vectors-length : (m i : ℕ) → length (vectorsFrom u t i m) ≡ m
@@ -70,8 +58,15 @@ module _ (u : Record) (t : Tables) (L : listed u t ≡ true) where
   unfolding listed
   tests = and-true (wellFormed u t) (allGiven u t 1 (u .k)) L
 
-  pub listed-formed : wellFormed u t ≡ true
-  listed-formed = tests .0
+  pub listed-tested : wellFormed u t ≡ true
+  listed-tested = tests .0
+
+  -- it is well formed, with few vectors and cells
+  pub listed-formed : WellFormed u t
+  listed-formed = well-formed-facts u t listed-tested
+
+  pub listed-few : (u .k ≤ maxVectors) × (u .cells ≤ maxCells)
+  listed-few = few-words u t listed-tested
 
   pub listed-length : length (listIn u t) ≡ u .k
   unfolding listIn
@@ -89,13 +84,13 @@ module _ (u : Record) (t : Tables) (L : listed u t ≡ true) where
   listed-number i l h = let e : suc (i - 1) ≡ i = omega arith in rw e at (listed-entry (i - 1) (omega arith))
 
   pub listed-sound : sound u t ≡ true
-  listed-sound = listed-entry 0 (some-vector u t (tests .0)) .is-sound
+  listed-sound = listed-entry 0 (formed-numbers u t (tests .0) .vectors .0) .is-sound
 
   -- the words for the first cells, after the call
   pub listed-firsts : (old : List ℕ) (i : ℕ) → i ≤ u .k → getD (firstsIn u t old) i 0 ≡ firstCell u t i
   listed-firsts old i h =
       ap (λ (l : List ℕ). getD l i 0) (sym (sound-firsts u t old listed-sound))
-      ∙ firsts-of (take (u .cells) (t .g)) maxWords i (omega (arith, few-words u t (tests .0) .0))
+      ∙ firsts-of (take (u .cells) (t .g)) maxWords i (omega (arith, listed-few .0))
 
   -- two vectors never lead to one cell
   pub listed-cells : (i j : ℕ) → i < u .k → j < u .k → cellIn u t (getD (listIn u t) i 0) ≡ cellIn u t (getD (listIn u t) j 0) → i ≡ j

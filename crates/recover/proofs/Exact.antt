@@ -10,7 +10,6 @@ use lib.Seq.{getD-take, length-take-le}
 use borrow.Author.Tests.{lt-ltb, le-ltb, le-leb}
 use Rattle.lists.proofs.Finding.Equals.{equal-first}
 use Rattle.vectors.specs.Variable.{rowOf, columnOf}
-use Rattle.span.specs.Span.{kept}
 use Rattle.vectors.proofs.Variables.Numbers.{column-lt}
 use Rattle.vectors.proofs.Words.Laws.{word-row, word-lt}
 use Rattle.span.proofs.Fixed.{vector-one}

@@ -12,12 +12,11 @@ use Rattle.lists.proofs.Writing.Storing.{Storing, storing-more, storing-end}
 use Rattle.vectors.specs.Bounds.{maxCells}
 use Rattle.record.specs.declared.Record.{Record}
 use Rattle.record.specs.Tables.{Tables}
-use Rattle.record.proofs.Formed.{few-words}
 use Rattle.recover.specs.declared.Recovered.{Recovered}
 use Rattle.recover.specs.Recover.{firstCell, fromCell}
 use Rattle.recover.specs.Every.{listed, listIn, listInto}
 use Rattle.recover.proofs.Recovery.{recover-from}
-use Rattle.recover.proofs.Every.{listed-formed, listed-length, listed-entry}
+use Rattle.recover.proofs.Every.{listed-tested, listed-few, listed-length, listed-entry}
 
 -- what stands in the words after the call
 module _ (u : Record) (t : Tables) (old : List ℕ) where
@@ -35,12 +34,12 @@ module _ (u : Record) (t : Tables) (L : listed u t ≡ true) where
     pub first-low : number ≤ maxCells
     first-low =
         let o = listed-entry u t L i h in
-        omega (arith, ap (firstCell u t) (add-one i), o .first, o .cell-in, few-words u t (listed-formed u t L) .1)
+        omega (arith, ap (firstCell u t) (add-one i), o .first, o .cell-in, listed-few u t L .1)
 
     -- what is recovered from it is the entry of the list
     entry-is : (r : Recovered) → r ≡ fromCell u t (getD (t .aux) (i + 1) 0) number → r .vector ≡ getD (listIn u t) i 0
     entry-is r q =
-        let f = recover-from u t (suc i) (listed-formed u t L) (rw (le-ltb (suc i) 1 (omega arith), le-ltb (u .k) (suc i) (omega arith))) in
+        let f = recover-from u t (suc i) (listed-tested u t L) (rw (le-ltb (suc i) 1 (omega arith), le-ltb (u .k) (suc i) (omega arith))) in
         ap (λ (r : Recovered). r .vector) ((rw (e, add-one i) at q) ∙ f ∙ listed-entry u t L i h .answer)
 
     pub vectors-more : (old words : List ℕ) → Storing (listIn u t) old 1 words i → (r : Recovered) → r ≡ fromCell u t (getD (t .aux) (i + 1) 0) number

@@ -6,19 +6,18 @@ use mathlib.Core.Path.{_≡_, refl, _∙_}
 use mathlib.Core.Bool.{Bool, true, false, false≢true}
 use mathlib.Core.List.{List, [], _∷_}
 use mathlib.Core.Logic.{⊎-elim}
-use lib.Dec.{eqb}
 use lib.ListN.{length, getD}
-use borrow.Author.Tests.{lt-ltb}
 use Rattle.lists.specs.First.{has}
 use Rattle.lists.proofs.Finding.Has.{has-cons}
-use Rattle.rows.specs.Care.{Care, keep, inRow, weightOf}
-use Rattle.rows.specs.Fit.{cellOf, inside, firstFit}
+use Rattle.rows.specs.Care.{Care, inRow, weightOf}
+use Rattle.rows.specs.Fit.{firstFit}
 use Rattle.rows.specs.Place.{Placing, place}
 use Rattle.rows.specs.Demand.{filled, Ahead, Falling, Once, Smallest, Bounded, triesOf, boundOf, Spread, spread, Columns}
 use Rattle.rows.specs.declared.End.{End}
 use Rattle.rows.specs.declared.End.the-variants.{All, NoFit, Over, Unfit}
 use Rattle.rows.specs.declared.Fit.the-variants.{None}
 use Rattle.rows.proofs.Fits.Bound.{first-fits}
+use Rattle.rows.proofs.Fits.Columns.{row-inside}
 use Rattle.rows.proofs.Placing.Open.{open-none}
 use Rattle.rows.proofs.Placing.Turns.{Next, ended, cells-length}
 use Rattle.rows.proofs.Placing.Order.{ordered}
@@ -38,22 +37,6 @@ spread-bounds k cs s h (p ∷ ps) f b r m =
     (λ e. rw e (omega (arith, b .0, spread-le k cs s ps p (λ q i. ahead-le cs q p (f .0 q i)))))
     (λ i. spread-bounds k cs s h ps (f .1) (b .1) r i)
     (has-cons r p ps m)
-
-pub row-columns : (columns r : ℕ) (cs : List Care) → Columns columns cs → Columns columns (inRow r cs)
-unfolding inRow
-row-columns columns r [] q = tt
-row-columns columns r (c ∷ cs) q = go (eqb (c .row) r) (row-columns columns r cs (q .1))
-  where
-    go : (t : Bool) → Columns columns (inRow r cs) → Columns columns (keep t c (inRow r cs))
-    go true i = (q .0, i)
-    go false i = i
-
-pub columns-inside : (columns cells d : ℕ) → d + columns ≤ cells → (m : List Care) → Columns columns m → inside cells d m ≡ true
-unfolding inside
-columns-inside columns cells d l [] q = refl
-columns-inside columns cells d l (c ∷ m) q =
-    let b : cellOf c d < cells = omega (arith, q .0) in
-    rw (lt-ltb (cellOf c d) cells b) (columns-inside columns cells d l m (q .1))
 
 module _ (cs : List Care) (h g : List ℕ) where
   abbrev pub P : Placing
@@ -114,7 +97,7 @@ module _ (cs : List Care) (h g : List ℕ) where
         le-trans
         (mul-le-mul-left (length (inRow r cs)) (omega (arith, counted cs h g .count)))
         (spread-le k cs s (P .state .order) r (λ q m. ahead-le cs q r (ordered cs h g .ahead q r m (omega (arith, n .row-in, ordered cs h g .size)) (n .weighs)))) in
-        let b = first-fits (P .state .g) (inRow r cs) (columns-inside columns (length (P .state .g)) w (omega (arith, cells-length cs h g)) (inRow r cs) (row-columns columns r cs c)) in
+        let b = first-fits (P .state .g) (inRow r cs) (row-inside columns (length (P .state .g)) w (omega (arith, cells-length cs h g)) r cs c) in
         let z : _≡_ {A = ℕ} 0 1 = cc (b .1) in
         omega arith
 

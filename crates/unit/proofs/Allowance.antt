@@ -8,7 +8,7 @@ use Rattle.vectors.specs.Variable.{kindsOf}
 use Rattle.record.specs.Tables.{Tables}
 use Rattle.build.specs.declared.Refusal.{Refusal}
 use Rattle.build.specs.Build.{rowsShare, outcome, chosenKinds, chosenRefusal, givenRefusal, buildChosen, buildGiven}
-use Rattle.build.proofs.Cells.Builds.{chosen-early, given-early}
+use Rattle.build.proofs.Places.{chosen-small, given-small}
 use Rattle.build.proofs.Allowed.{made-most, most-half, outcome-allowed, outcome-tries, outcome-raised}
 use Rattle.unit.specs.Allowance.{Allowances, boundFor, AllowancesChosen, AllowancesGiven}
 
@@ -26,9 +26,9 @@ pub chosen-allowances : AllowancesChosen buildChosen
 unfolding buildChosen
 chosen-allowances n degree cells vs t =
     let ks : List Kind = chosenKinds n degree vs in
-    outcome-allowances (chosenRefusal n degree ks cells vs t) n (rowsShare (length ks)) ks cells vs t (chosen-early n degree vs cells t)
+    outcome-allowances (chosenRefusal n degree ks cells vs t) n (rowsShare (length ks)) ks cells vs t (chosen-small n degree vs cells t .number-low)
 
 pub given-allowances : AllowancesGiven buildGiven
 unfolding buildGiven
 given-allowances n variables p n1 cells vs t =
-    outcome-allowances (givenRefusal n p n1 (kindsOf (take p variables)) cells vs t) n n1 (kindsOf (take p variables)) cells vs t (given-early n variables p n1 vs cells t)
+    outcome-allowances (givenRefusal n p n1 (kindsOf (take p variables)) cells vs t) n n1 (kindsOf (take p variables)) cells vs t (given-small n variables p n1 vs cells t .number-low)

@@ -22,7 +22,7 @@ use Rattle.recover.specs.Every.{listed, listIn}
 use Rattle.build.specs.declared.Refusal.{Refusal}
 use Rattle.build.specs.Refusals.{ladder}
 use Rattle.build.specs.Build.{Outcome, refused}
-use Rattle.build.proofs.Refusing.Ladder.{pass, if-passed, at-passed}
+use Rattle.build.proofs.Refusing.Ladder.{pass-at, if-passed, at-passed}
 use Rattle.add.specs.Add.{refuseNew, check14, check6, check40, check3, check5, check10, addRefusal, amended, hasRoom, amendedTo, moved, placedIn, addOf}
 use Rattle.add.specs.Facts.{liftedCells, newRow}
 
@@ -41,25 +41,24 @@ module _ (u : Record) (t : Tables) (x : ℕ) where
   new-passed m true h = absurd (omega arith)
   new-passed m false h = refl
 
+  -- the rungs behind 14, and all of them
+  abbrev pub listedRungs : List Refusal
+  listedRungs = check6 u x ∷ check40 u t x ∷ check3 u ∷ check5 u t ∷ check10 u t x ∷ []
+
   abbrev pub rungs : List Refusal
-  rungs = check14 u t ∷ check6 u x ∷ check40 u t x ∷ check3 u ∷ check5 u t ∷ check10 u t x ∷ []
+  rungs = check14 u t ∷ listedRungs
 
   past : addRefusal u t x .number ≡ 0 → ladder rungs .number ≡ 0 → Passed
   past z h =
-      let p14 = pass _ _ h in
-      let p6 = pass _ _ (p14 .1) in
-      let p40 = pass _ _ (p6 .1) in
-      let p3 = pass _ _ (p40 .1) in
-      let p5 = pass _ _ (p3 .1) in
-      let p10 = pass _ _ (p5 .1) in
+      let p = pass-at rungs h in
       record {
         none = z;
-        is-listed = not-false _ (if-passed 13 _ (p14 .0));
-        within = leb-false _ _ (new-passed 5 _ (p6 .0));
-        unknown = at-passed 39 _ (p40 .0);
-        few = leb-false _ _ (if-passed 2 _ (p3 .0));
-        word-fits = ltb-false _ _ (if-passed 4 _ (p5 .0));
-        apart = new-passed 9 _ (p10 .0);
+        is-listed = not-false _ (if-passed 13 _ (p 0));
+        within = leb-false _ _ (new-passed 5 _ (p 1));
+        unknown = at-passed 39 _ (p 2);
+        few = leb-false _ _ (if-passed 2 _ (p 3));
+        word-fits = ltb-false _ _ (if-passed 4 _ (p 4));
+        apart = new-passed 9 _ (p 5);
       }
 
   pub passed : addRefusal u t x .number ≡ 0 → Passed
@@ -101,17 +100,18 @@ module _ (u : Record) (t : Tables) (x : ℕ) where
     moves : Moved → End
     sticks : Stuck → End
 
-  add-refused : (addRefusal u t x .number ≡ 0 → ⊥) → addOf u t x ≡ refused (addRefusal u t x) t
+  -- by the refusal's number
+  pub added-refused : (addRefusal u t x .number ≡ 0 → ⊥) → addOf u t x ≡ refused (addRefusal u t x) t
   unfolding addOf
-  add-refused h = go (addRefusal u t x .number) h
+  added-refused h = go (addRefusal u t x .number) h
     where
       go : (m : ℕ) → (m ≡ 0 → ⊥) → elim m as (λ n. Outcome) [ zero ↦ placedIn u t x | suc n ↦ refused (addRefusal u t x) t ] ≡ refused (addRefusal u t x) t
       go zero h = absurd (h refl)
       go (suc m) h = refl
 
-  add-passed : addRefusal u t x .number ≡ 0 → addOf u t x ≡ placedIn u t x
+  pub added-passed : addRefusal u t x .number ≡ 0 → addOf u t x ≡ placedIn u t x
   unfolding addOf
-  add-passed e = rw (e, addOf)
+  added-passed e = rw (e, addOf)
 
   placed-room : hasRoom u t x ≡ true → placedIn u t x ≡ amendedTo u t x (t .h) (set (t .g) (cellIn u t x) (suc (u .k)))
   unfolding placedIn
@@ -135,17 +135,17 @@ module _ (u : Record) (t : Tables) (x : ℕ) where
   ending = by (addRefusal u t x .number) refl
     where
       fit : addRefusal u t x .number ≡ 0 → hasRoom u t x ≡ false → (f : Fit) → firstFit (liftedCells u t x) (newRow u t x) ≡ f → End
-      fit z e (At d) q = moves (record { passes = passed z; no-room = e; d = d; fits = q; is = add-passed z ∙ placed-moved e ∙ moved-at d q })
+      fit z e (At d) q = moves (record { passes = passed z; no-room = e; d = d; fits = q; is = added-passed z ∙ placed-moved e ∙ moved-at d q })
       fit z e (None tried needed) q =
-          sticks (record { passes = passed z; no-room = e; tried = tried; needed = needed; fits = q; is = add-passed z ∙ placed-moved e ∙ moved-none tried needed q })
+          sticks (record { passes = passed z; no-room = e; tried = tried; needed = needed; fits = q; is = added-passed z ∙ placed-moved e ∙ moved-none tried needed q })
 
       cell : addRefusal u t x .number ≡ 0 → (b : Bool) → hasRoom u t x ≡ b → End
-      cell z true e = goes-in (record { passes = passed z; has-room = e; is = add-passed z ∙ placed-room e })
+      cell z true e = goes-in (record { passes = passed z; has-room = e; is = added-passed z ∙ placed-room e })
       cell z false e = fit z e (firstFit (liftedCells u t x) (newRow u t x)) refl
 
       by : (m : ℕ) → addRefusal u t x .number ≡ m → End
       by zero z = cell z (hasRoom u t x) refl
-      by (suc m) e = refuses (record { cause = λ z. omega arith; is = add-refused (λ z. omega arith) })
+      by (suc m) e = refuses (record { cause = λ z. omega arith; is = added-refused (λ z. omega arith) })
 
   -- what an accepted addition is
   pub accepted : addOf u t x .built .refusal ≡ 0 → Room ⊎ Moved

@@ -1,7 +1,6 @@
 -- An accepted addition leaves a sound unit, whatever unit it was made to, and place and needed are 0. Assumes nothing.
 use Prim.Native.Nat.{ℕ, suc, _<_}
-use native.Mathlib.Omega.{arith}
-use mathlib.Core.Path.{_≡_, sym, ap, _∙_}
+use mathlib.Core.Path.{_≡_}
 use mathlib.Core.Bool.{true}
 use mathlib.Core.Logic.{_⊎_, inl, inr}
 use lib.ListN.{length}
@@ -9,10 +8,8 @@ use Rattle.record.specs.declared.Record.{Record}
 use Rattle.record.specs.Tables.{Tables}
 use Rattle.record.specs.Formed.{sound}
 use Rattle.recover.proofs.Every.{listed-sound}
-use Rattle.build.specs.declared.Built.{Built}
-use Rattle.build.specs.Build.{Outcome, accepted}
-use Rattle.add.specs.Add.{amended, addOf}
-use Rattle.add.specs.Facts.{Stays}
+use Rattle.build.specs.Build.{accepted}
+use Rattle.add.specs.Add.{addOf}
 use Rattle.add.proofs.Adding.Ends as ends
 use Rattle.add.proofs.Adding.Ends.{Passed, Room, Moved}
 use Rattle.add.proofs.Adding.Amended.{amended-sound}

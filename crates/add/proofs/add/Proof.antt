@@ -12,7 +12,7 @@ use Rattle.record.specs.Tables.{Tables, lent}
 use Rattle.record.specs.Leads.{cellIn}
 use Rattle.recover.specs.Every.{listed}
 use Rattle.recover.proofs.Firsts.{firsts-length, sound-firsts}
-use Rattle.recover.proofs.Every.{listed-sound, listed-firsts}
+use Rattle.recover.proofs.Every.{listed-sound, listed-formed, listed-few, listed-firsts}
 use Rattle.build.specs.declared.Built.{Built}
 use Rattle.build.specs.declared.Refusal.{Refusal}
 use Rattle.build.specs.Refusals.{ladder}
@@ -24,7 +24,8 @@ use Rattle.add.specs.Inner.Checks.{checks}
 use Rattle.add.specs.Inner.Moves.{cellsIn, placedBy}
 use Rattle.add.proofs.Seating.{seat-column}
 use Rattle.add.proofs.Moving.Outcomes.{placed-is}
-use Rattle.add.proofs.Rungs.{added-refused, added-passed, added-unlisted, added-beyond, refusal-is, few, formed, number-low, ready}
+use Rattle.add.proofs.Adding.Ends.{added-refused, added-passed}
+use Rattle.add.proofs.Rungs.{added-unlisted, added-beyond, refusal-is, number-low, ready}
 use borrow.Author.Needs.{needs}
 use Rattle.add.proofs.add.Statement.{statement}
 use Rattle.add.proofs.add.Tie as tie
@@ -71,7 +72,7 @@ cell-low c =
     let e = c .before .before .before .before in
     let s = start e in
     rw (seat-is c)
-    (omega (arith, displaced e (seatOf (s .args .unit) (s .args .h .now) (s .args .x) .row), seat-column (s .args .unit) (s .args .x) (formed _ _ (s .args .x) (is-listed e) .bounds) (size s)))
+    (omega (arith, displaced e (seatOf (s .args .unit) (s .args .h .now) (s .args .x) .row), seat-column (s .args .unit) (s .args .x) (listed-formed _ _ (is-listed e) .bounds) (size s)))
 
 number-is : (c : tie.After-number-at) → let s = start (c .before .before .before .before .before .before .before .before) in NumberAt (s .args .unit) (tables s) (cellIn (s .args .unit) (tables s) (s .args .x)) (c .number-at .result)
 number-is c =
@@ -97,7 +98,7 @@ returns c =
     ∙ sym (added-unlisted (s .args .unit) (tables s) (s .args .x) (sym (c .before .before .listed .ensures .0) ∙ not-true _ (c .before .if1 .taken)))
 
 add-refused : tie.Need-add-refused
-add-refused c = let e = c .before .before .before in omega (arith, few _ _ (start e .args .x) (is-listed e))
+add-refused c = let e = c .before .before .before in omega (arith, listed-few _ _ (is-listed e) .0)
 
 returns-2 : tie.Need-returns-2
 returns-2 c =
@@ -108,7 +109,7 @@ returns-2 c =
     ∙ sym (added-beyond (s .args .unit) (tables s) (s .args .x) (is-listed e) (leb-true _ _ (sym (c .before .before .before .beyond .ensures) ∙ c .before .before .if2 .taken)))
 
 find-seat-requires : tie.Need-find-seat-requires
-find-seat-requires c κs = let e = c .before .before .before in let w = formed _ _ (start e .args .x) (is-listed e) in (w .bounds, w .inputs, w .rows-held)
+find-seat-requires c κs = let e = c .before .before .before in let w = listed-formed _ _ (is-listed e) in (w .bounds, w .inputs, w .rows-held)
 
 slice-aggregate-number-at : tie.Need-slice-aggregate-number-at
 slice-aggregate-number-at c = sym (firsts-size (c .before .before .before .before .before .before))
@@ -117,7 +118,7 @@ add-number-at : tie.Need-add-number-at
 add-number-at c = omega (arith, cell-low (c .before .before .before))
 
 number-at-requires : tie.Need-number-at-requires
-number-at-requires c κs = let e = c .before .before .before .before .before .before .before in let w = formed _ _ (start e .args .x) (is-listed e) in (w .cells-held, omega (arith, firsts-size e, few _ _ (start e .args .x) (is-listed e)))
+number-at-requires c κs = let e = c .before .before .before .before .before .before .before in let w = listed-formed _ _ (is-listed e) in (w .cells-held, omega (arith, firsts-size e, listed-few _ _ (is-listed e) .0))
 
 check-requires : tie.Need-check-requires
 check-requires c κs = let e = c .before .before .before .before .before .before .before .before .before in number-low _ _ _ (is-listed e) _ (number-is (c .before))

@@ -1,6 +1,5 @@
 -- `amend::add_all` meets its contract. The loop's invariant: the vectors passed are added, and the rest is to be added to what is left so far. Assumes nothing.
 use Prim.Native.Nat.{_-_}
-use native.Mathlib.Omega.{arith}
 use mathlib.Core.Path.{_≡_, refl}
 use lib.ListN.{length}
 use Rattle.record.specs.Tables.{lent}

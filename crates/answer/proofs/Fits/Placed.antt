@@ -2,17 +2,15 @@
 use Prim.Native.Nat.{ℕ, zero, suc, _+_, _*_, _^_, _≤_, _<_}
 use native.Mathlib.Omega.{arith}
 use mathlib.Core.Path.{_≡_, _∙_}
-use mathlib.Core.Bool.{Bool, true, false}
 use mathlib.Core.List.{List, [], _∷_}
-use lib.Dec.{eqb}
 use lib.ListN.{length, set, replicate, length-set}
 use Rattle.lists.specs.Members.{All}
 use Rattle.vectors.specs.Bounds.{maxCells}
-use Rattle.rows.specs.Care.{Care, caresBy, keep, inRow, weightOf, openWeight}
+use Rattle.rows.specs.Care.{Care, caresBy, inRow, weightOf, openWeight}
 use Rattle.rows.specs.Fit.{cellOf, put}
 use Rattle.rows.specs.Place.{State, placeRow, place}
 use Rattle.rows.proofs.Fits.First.{fit-low}
-use Rattle.rows.proofs.Fits.Cells.{put-length}
+use Rattle.rows.proofs.Fits.Cells.{all-row, put-length}
 use Rattle.rows.proofs.Placing.Open.{open-weight, countOf, count-all, open-less}
 use Rattle.rows.proofs.Placing.Turns.{Next, at-end}
 
@@ -35,15 +33,6 @@ all-put : (m : List Care) (g : List ℕ) (d : ℕ) → All (λ c. Half (c .index
 unfolding put
 all-put [] g d i a = a
 all-put (c ∷ m) g d i a = all-put m (set g (cellOf c d) (c .index)) d (i .1) (all-set g (cellOf c d) (c .index) (i .0) a)
-
-all-row : (Q : Care → Type 0) (r : ℕ) (cs : List Care) → All Q cs → All Q (inRow r cs)
-unfolding inRow
-all-row Q r [] a = tt
-all-row Q r (c ∷ cs) a = go (eqb (c .row) r) (all-row Q r cs (a .1))
-  where
-    go : (t : Bool) → All Q (inRow r cs) → All Q (keep t c (inRow r cs))
-    go true i = (a .0, i)
-    go false i = i
 
 -- entries numbered from i on have small numbers where the last is small
 pub cares-low : (row column : ℕ → ℕ) (i : ℕ) (xs : List ℕ) → i + length xs ≤ 2 ^ 16 → All (λ c. Half (c .index)) (caresBy row column i xs)

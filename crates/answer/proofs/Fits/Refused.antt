@@ -1,8 +1,8 @@
 -- The program's allowance is never exceeded, so that the number of a refusal is at most 13. Assumes nothing.
 use Prim.Native.Nat.{ℕ, suc, _*_, _≤_}
-use native.Mathlib.Nat.{mul-le-mul, eq-zero-or-pos}
+use native.Mathlib.Nat.{mul-le-mul}
 use native.Mathlib.Omega.{arith}
-use mathlib.Core.Path.{_≡_, sym, ap, _∙_}
+use mathlib.Core.Path.{_≡_, sym, _∙_}
 use mathlib.Core.List.{List}
 use lib.ListN.{length}
 use Rattle.vectors.specs.declared.Kind.{Kind}
@@ -11,8 +11,8 @@ use Rattle.rows.specs.Allowance.{triesMade}
 use Rattle.rows.proofs.Placing.Allowed.{within-same}
 use Rattle.record.specs.Tables.{Tables}
 use Rattle.build.specs.declared.Refusal.{Refusal}
-use Rattle.build.specs.Build.{Outcome, rowsShare, placingOf, outcome, chosenKinds, chosenRefusal, buildChosen}
-use Rattle.build.proofs.Cells.Builds.{chosen-early}
+use Rattle.build.specs.Build.{rowsShare, placingOf, outcome, chosenKinds, chosenRefusal, buildChosen}
+use Rattle.build.proofs.Places.{chosen-small}
 use Rattle.build.proofs.Holding.Passed.{chosen-passed}
 use Rattle.build.proofs.Holding.Ends.{Comes, early, whole, stuck, over, comes, placing-over}
 use Rattle.build.proofs.Allowed.{made-most, most-half}
@@ -40,5 +40,5 @@ pub chosen-number : (n degree cells : ℕ) (vs : List ℕ) (t : Tables) → buil
 unfolding buildChosen
 chosen-number n degree cells vs t =
     let ks : List Kind = chosenKinds n degree vs in
-    outcome-low (chosenRefusal n degree ks cells vs t) n (rowsShare (length ks)) ks cells programAllowance vs t (chosen-early n degree vs cells t)
+    outcome-low (chosenRefusal n degree ks cells vs t) n (rowsShare (length ks)) ks cells programAllowance vs t (chosen-small n degree vs cells t .number-low)
     (λ z. allowed (rowsShare (length ks)) ks cells vs (chosen-passed n degree cells vs t z .list .listed .few))

@@ -2,21 +2,16 @@
 use Prim.Native.Nat.{ℕ, _+_, _^_, _<_}
 use native.Mathlib.Omega.{arith}
 use mathlib.Core.Path.{_≡_, refl, sym, ap, _∙_}
-use mathlib.Core.Bool.{true, false, not, true≢false}
-use mathlib.Core.List.{List, [], _∷_, _++_, map}
+use mathlib.Core.Bool.{false, true≢false}
+use mathlib.Core.List.{List, [], _∷_, _++_}
 use mathlib.Core.Logic.{⊎-elim}
-use lib.Dec.{ltb}
 use lib.ListN.{length, take, drop, replicate}
 use lib.Seq.{take-at}
-use Rattle.lists.specs.First.{repeated}
-use Rattle.lists.specs.Members.{All}
 use Rattle.lists.proofs.Tests.{le-or-lt}
-use Rattle.vectors.specs.Bounds.{maxVariables, outside, tooMany}
-use Rattle.vectors.specs.Variable.{kindsOf, numberOf, firstFaulty}
+use Rattle.vectors.specs.Bounds.{maxVariables}
+use Rattle.vectors.specs.Variable.{kindsOf}
 use Rattle.vectors.specs.declared.Kind.{Kind}
 use Rattle.vectors.specs.declared.Variable.{Variable}
-use Rattle.span.specs.Span.{firstDependent}
-use Rattle.choice.specs.Choice.{apart}
 use Rattle.rows.specs.Place.{Placing}
 use Rattle.rows.specs.Allowance.{placesWithin}
 use Rattle.rows.specs.declared.End.the-variants.{NoFit}
@@ -29,11 +24,11 @@ use Rattle.build.specs.declared.Refusal.{Refusal}
 use Rattle.build.specs.Refusals.{givenChecks, check2Chosen, check2Given, check11, check12}
 use Rattle.build.specs.Build.{rowsShare, Outcome, caresFrom, placingOf, outcome, chosenKinds, chosenRefusal, buildChosen, givenRefusal, buildGiven}
 use Rattle.build.specs.Cells.{Builds, chosenBuilds, givenBuilds, Places, Unplaced, Room, withCells, Accepts, Enough, Wider, used, LeastCells}
-use Rattle.build.proofs.Refusing.Ladder.{pass}
 use Rattle.build.proofs.Holding.Passed.{Passed, chosen-passed, given-passed}
 use Rattle.build.proofs.Holding.Ends.{placing-cells, Comes, early, whole, stuck, over, comes, outcome-accepted, accepted-outcome}
 use Rattle.build.proofs.Holding.Built.{care-held}
-use Rattle.build.proofs.Cells.Checks.{Early, if-early, at-early, list-early, list-room, some-cells}
+use Rattle.build.proofs.Places.{Small, chosen-small, given-small}
+use Rattle.build.proofs.Cells.Checks.{list-room, some-cells}
 use Rattle.build.proofs.Cells.Placings.{placing-wider, placing-short, placing-within, placing-used}
 
 -- ---- the outcome
@@ -44,7 +39,7 @@ record Ended13 (r : Refusal) (P : Placing) (o : Outcome) : Type 0 where
   tried : ℕ
   is : P .end ≡ NoFit (o .built .place) tried (o .built .needed)
 
-module _ (n n1 : ℕ) (ks : List Kind) (vs : List ℕ) (refusal : ℕ → Tables → Refusal) (first : (cells : ℕ) (t : Tables) → Early (refusal cells t))
+module _ (n n1 : ℕ) (ks : List Kind) (vs : List ℕ) (refusal : ℕ → Tables → Refusal) (first : (cells : ℕ) (t : Tables) → Small 12 (refusal cells t))
     (room : (cells m : ℕ) (t : Tables) (g : List ℕ) → 0 < m → Room m g → refusal cells t .number ≡ 0 → refusal m (withCells t g) .number ≡ 0)
     (some : (cells : ℕ) (t : Tables) → refusal cells t .number ≡ 0 → 0 < cells) where
   abbrev B : Builds
@@ -62,7 +57,7 @@ module _ (n n1 : ℕ) (ks : List Kind) (vs : List ℕ) (refusal : ℕ → Tables
       number o = o .built .refusal
 
       go : Comes n n1 ks cells a vs t (refusal cells t) → Ended13 (refusal cells t) (B .placing cells) (B .outcome cells a t)
-      go (early l e) = absurd (omega (arith, ap number e, first cells t))
+      go (early l e) = absurd (omega (arith, ap number e, first cells t .number-low))
       go (whole z q e) = absurd (omega (arith, ap number e))
       go (stuck z row tried needed q e) = rw e (record { passed = z; tried = tried; is = within-stuck a (placingOf n1 ks cells vs) row tried needed q .is })
       go (over z row q e) = absurd (omega (arith, ap number e))
@@ -95,7 +90,7 @@ module _ (n n1 : ℕ) (ks : List Kind) (vs : List ℕ) (refusal : ℕ → Tables
       unplaced r q e f p = true≢false (sym (p .1) ∙ ap (placesWithin a (placingOf n1 ks cells vs)) e ∙ f)
 
       go : Comes n n1 ks cells a vs t (refusal cells t) → Places B cells a t (B .outcome cells a t .built .place) → ⊥
-      go (early l e) = absurd (omega (arith, ap number e, first cells t))
+      go (early l e) = absurd (omega (arith, ap number e, first cells t .number-low))
       go (whole z q e) = absurd (omega (arith, ap number e))
       go (stuck z r tried needed q e) =
           unplaced _ r (ap row e)
@@ -156,12 +151,6 @@ module _ (n degree : ℕ) (vs : List ℕ) where
   abbrev rest : Tables → List Refusal
   rest t = check11 ks vs ∷ check12 n1 (t .h) ∷ []
 
-  pub chosen-early : (cells : ℕ) (t : Tables) → Early (r cells t)
-  unfolding chosenRefusal
-  chosen-early cells t =
-      list-early n (check2Chosen degree) cells vs (length (t .g)) (length (t .aux)) (rest t) (if-early 2 (outside 1 2 degree) (omega arith))
-      (if-early 11 (not (apart vs ks)) (omega arith), (if-early 12 (ltb (length (t .h)) (2 ^ n1)) (omega arith), tt))
-
   chosen-room : (cells m : ℕ) (t : Tables) (g : List ℕ) → 0 < m → Room m g → r cells t .number ≡ 0 → r m (withCells t g) .number ≡ 0
   unfolding chosenRefusal
   chosen-room cells m t g p q = list-room n (check2Chosen degree) cells m vs (length (t .g)) (length g) (length (t .aux)) (rest t) p (q .0) (q .1)
@@ -174,23 +163,23 @@ module _ (n degree : ℕ) (vs : List ℕ) where
   pub chosen-enough : (cells a : ℕ) (t : Tables) → buildChosen n degree cells a vs t .built .refusal ≡ 13
       → Enough (chosenBuilds n degree vs) cells t (buildChosen n degree cells a vs t .built .place) (buildChosen n degree cells a vs t .built .needed)
   unfolding buildChosen
-  chosen-enough cells a t = outcome-enough n n1 ks vs r chosen-early chosen-room chosen-some cells a t
+  chosen-enough cells a t = outcome-enough n n1 ks vs r (chosen-small n degree vs) chosen-room chosen-some cells a t
 
   -- refused by 13 or 41: the row is not placed
   pub chosen-unplaced : Unplaced (chosenBuilds n degree vs)
   unfolding buildChosen
-  chosen-unplaced = outcome-unplaced n n1 ks vs r chosen-early chosen-room chosen-some
+  chosen-unplaced = outcome-unplaced n n1 ks vs r (chosen-small n degree vs) chosen-room chosen-some
 
   -- accepted: accepted with more cells, and the same but for G
   pub chosen-wider : (cells a : ℕ) (t : Tables) → buildChosen n degree cells a vs t .built .refusal ≡ 0 → Wider (chosenBuilds n degree vs) cells a t
   unfolding buildChosen
-  chosen-wider cells a t = outcome-wider n n1 ks vs r chosen-early chosen-room chosen-some cells a t
+  chosen-wider cells a t = outcome-wider n n1 ks vs r (chosen-small n degree vs) chosen-room chosen-some cells a t
 
   -- accepted: accepted with the cells up to the last that is taken, and with no fewer
   pub chosen-least : (cells a : ℕ) (t : Tables) → buildChosen n degree cells a vs t .built .refusal ≡ 0
       → LeastCells (chosenBuilds n degree vs) a t (used (take cells (buildChosen n degree cells a vs t .tables .g)))
   unfolding buildChosen
-  chosen-least cells a t = outcome-least n n1 ks vs r chosen-early chosen-room chosen-some (check2Chosen degree) cells a t (chosen-passed n degree cells vs t)
+  chosen-least cells a t = outcome-least n n1 ks vs r (chosen-small n degree vs) chosen-room chosen-some (check2Chosen degree) cells a t (chosen-passed n degree cells vs t)
 
 module _ (n : ℕ) (variables : List Variable) (p n1 : ℕ) (vs : List ℕ) where
   abbrev gs : List Kind
@@ -201,14 +190,6 @@ module _ (n : ℕ) (variables : List Variable) (p n1 : ℕ) (vs : List ℕ) wher
 
   abbrev more : Tables → List Refusal
   more t = givenChecks n gs vs ++ (check12 n1 (t .h) ∷ [])
-
-  pub given-early : (cells : ℕ) (t : Tables) → Early (s cells t)
-  unfolding givenRefusal
-  given-early cells t =
-      list-early n (check2Given p n1) cells vs (length (t .g)) (length (t .aux)) (more t) (if-early 2 (tooMany p n1) (omega arith)) (
-        at-early 8 (firstFaulty n gs) (omega arith),
-        (at-early 9 (firstDependent gs) (omega arith), (at-early 10 (repeated (map (numberOf gs) vs)) (omega arith), (if-early 12 (ltb (length (t .h)) (2 ^ n1)) (omega arith), tt))),
-      )
 
   given-room : (cells m : ℕ) (t : Tables) (g : List ℕ) → 0 < m → Room m g → s cells t .number ≡ 0 → s m (withCells t g) .number ≡ 0
   unfolding givenRefusal
@@ -222,18 +203,18 @@ module _ (n : ℕ) (variables : List Variable) (p n1 : ℕ) (vs : List ℕ) wher
   pub given-enough : (cells a : ℕ) (t : Tables) → buildGiven n variables p n1 cells a vs t .built .refusal ≡ 13
       → Enough (givenBuilds n variables p n1 vs) cells t (buildGiven n variables p n1 cells a vs t .built .place) (buildGiven n variables p n1 cells a vs t .built .needed)
   unfolding buildGiven
-  given-enough cells a t = outcome-enough n n1 gs vs s given-early given-room given-some cells a t
+  given-enough cells a t = outcome-enough n n1 gs vs s (given-small n variables p n1 vs) given-room given-some cells a t
 
   pub given-unplaced : Unplaced (givenBuilds n variables p n1 vs)
   unfolding buildGiven
-  given-unplaced = outcome-unplaced n n1 gs vs s given-early given-room given-some
+  given-unplaced = outcome-unplaced n n1 gs vs s (given-small n variables p n1 vs) given-room given-some
 
   pub given-wider : (cells a : ℕ) (t : Tables) → buildGiven n variables p n1 cells a vs t .built .refusal ≡ 0 → Wider (givenBuilds n variables p n1 vs) cells a t
   unfolding buildGiven
-  given-wider cells a t = outcome-wider n n1 gs vs s given-early given-room given-some cells a t
+  given-wider cells a t = outcome-wider n n1 gs vs s (given-small n variables p n1 vs) given-room given-some cells a t
 
   pub given-least : (cells a : ℕ) (t : Tables) → length variables ≡ maxVariables → buildGiven n variables p n1 cells a vs t .built .refusal ≡ 0
       → LeastCells (givenBuilds n variables p n1 vs) a t (used (take cells (buildGiven n variables p n1 cells a vs t .tables .g)))
   unfolding buildGiven
   given-least cells a t places =
-      outcome-least n n1 gs vs s given-early given-room given-some (check2Given p n1) cells a t (given-passed n variables p n1 cells vs t places)
+      outcome-least n n1 gs vs s (given-small n variables p n1 vs) given-room given-some (check2Given p n1) cells a t (given-passed n variables p n1 cells vs t places)

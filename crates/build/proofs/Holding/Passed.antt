@@ -22,10 +22,10 @@ use Rattle.span.proofs.Count.{kept-number}
 use Rattle.vectors.specs.Bounds.{maxVariables, maxSide}
 use Rattle.build.specs.Build.{rowsShare, chosenRefusal, givenRefusal, chosenKinds}
 use Rattle.build.specs.declared.Refusal.{Refusal}
-use Rattle.build.specs.Refusals.{orElse, ladder, listChecks, givenChecks, check2Chosen, check2Given, check8, check9, check10, check11, check12}
+use Rattle.build.specs.Refusals.{orElse, ladder, listChecks, givenChecks, check2Chosen, check2Given, check11, check12}
 use Rattle.record.specs.Tables.{Tables}
 use Rattle.build.specs.Inner.Ready.{Split}
-use Rattle.build.proofs.Refusing.Ladder.{ladder-append, pass, if-passed, at-passed, ListPassed, list-passed}
+use Rattle.build.proofs.Refusing.Ladder.{ladder-append, pass-at, if-passed, at-passed, ListPassed, list-passed}
 use Rattle.record.proofs.Formed.{Few, few}
 use Rattle.build.proofs.Holding.Chosen.{choose-few, choose-right, choose-independent}
 
@@ -86,13 +86,12 @@ module _ (n degree cells : ℕ) (vs : List ℕ) (t : Tables) (h : chosenRefusal 
       let ks : List Kind = chosenKinds n degree vs in
       let last : List Refusal = check12 (rowsShare (length ks)) (t .h) ∷ [] in
       let a = pass-both (listChecks n (check2Chosen degree) cells vs (length (t .g)) (length (t .aux))) (check11 ks vs ∷ last) h in
-      let b = pass (check11 ks vs) last (a .1) in
-      let c = pass (check12 (rowsShare (length ks)) (t .h)) [] (b .1) in
+      let b = pass-at (check11 ks vs ∷ last) (a .1) in
       record {
         list = list-passed n (check2Chosen degree) cells vs (length (t .g)) (length (t .aux)) (a .0);
         split = chosen-split n degree (check2Chosen degree) cells vs (length (t .g)) (length (t .aux)) (a .0);
-        apart = apart-repeated vs ks (not-false (apart vs ks) (if-passed 10 _ (b .0)));
-        rows-fit = ltb-false (length (t .h)) (2 ^ rowsShare (length ks)) (if-passed 11 _ (c .0));
+        apart = apart-repeated vs ks (not-false (apart vs ks) (if-passed 10 _ (b 0)));
+        rows-fit = ltb-false (length (t .h)) (2 ^ rowsShare (length ks)) (if-passed 11 _ (b 1));
       }
 
   -- exactly n - p inputs are kept
@@ -114,16 +113,15 @@ module _ (n : ℕ) (variables : List Variable) (p n1 cells : ℕ) (vs : List ℕ
   pub given-split : ladder (givenChecks n (kindsOf (take p variables)) vs) .number ≡ 0 → Split n n1 (kindsOf (take p variables))
   given-split q =
       let ks : List Kind = kindsOf (take p variables) in
-      let c = pass (check8 n ks) (check9 ks ∷ check10 ks vs ∷ []) q in
-      let d = pass (check9 ks) (check10 ks vs ∷ []) (c .1) in
+      let c = pass-at (givenChecks n ks vs) q in
       let s = given-few in
       record {
         few = omega (arith, given-length);
         rows-in = omega (arith, given-length);
         rows-few = s .rows-few;
         columns-few = omega (arith, given-length);
-        right = none-all (faulty n) ks (at-passed 7 _ (c .0));
-        independent = at-passed 8 _ (d .0);
+        right = none-all (faulty n) ks (at-passed 7 _ (c 0));
+        independent = at-passed 8 _ (c 1);
       }
 
 module _ (n : ℕ) (variables : List Variable) (p n1 cells : ℕ) (vs : List ℕ) (t : Tables) (places : length variables ≡ maxVariables)
@@ -141,13 +139,11 @@ module _ (n : ℕ) (variables : List Variable) (p n1 cells : ℕ) (vs : List ℕ
   pub given-passed : Passed n n1 (check2Given p n1) (kindsOf (take p variables)) cells vs t
   given-passed =
       let ks : List Kind = kindsOf (take p variables) in
-      let c = pass (check8 n ks) (check9 ks ∷ check10 ks vs ∷ []) (given-parts .1) in
-      let d = pass (check9 ks) (check10 ks vs ∷ []) (c .1) in
       record {
         list = list-passed n (check2Given p n1) cells vs (length (t .g)) (length (t .aux)) (given-parts .0);
         split = given-split n variables p n1 cells vs (length (t .g)) (length (t .aux)) places (given-parts .0) (given-parts .1);
-        apart = at-passed 9 _ (pass (check10 ks vs) [] (d .1) .0);
-        rows-fit = ltb-false (length (t .h)) (2 ^ n1) (if-passed 11 _ (pass (check12 n1 (t .h)) [] (given-parts .2) .0));
+        apart = at-passed 9 _ (pass-at (givenChecks n ks vs) (given-parts .1) 2);
+        rows-fit = ltb-false (length (t .h)) (2 ^ n1) (if-passed 11 _ (pass-at (check12 n1 (t .h) ∷ []) (given-parts .2) 0));
       }
 
   -- exactly n - p inputs are kept

@@ -5,7 +5,7 @@ use mathlib.Core.Path.{_≡_, refl}
 use mathlib.Core.Bool.{Bool, true, false}
 use mathlib.Core.List.{List, [], _∷_, _++_}
 use lib.Dec.{leb, ltb}
-use lib.ListN.{length}
+use lib.ListN.{length, getD}
 use borrow.Author.Tests.{ltb-false, leb-false}
 use Rattle.lists.specs.First.{repeated}
 use Rattle.lists.proofs.Tests.{or-false}
@@ -13,10 +13,11 @@ use Rattle.lists.specs.Members.{All}
 use Rattle.lists.proofs.Entries.Members.{all-map}
 use Rattle.lists.proofs.Finding.NonePass.{none-all}
 use Rattle.vectors.specs.declared.Kind.{Kind}
-use Rattle.vectors.specs.Bounds.{maxInputs, maxVectors, maxCells, outside}
+use Rattle.vectors.specs.Bounds.{maxInputs, maxVectors, maxCells}
 use Rattle.build.specs.declared.Refusal.{Refusal}
-use Rattle.build.specs.Refusals.{refuseIf, refuseAt, orElse, ladder, listChecks, firstBeyond}
+use Rattle.build.specs.Refusals.{accepted, refuseIf, refuseAt, orElse, ladder, listChecks, firstBeyond}
 use Rattle.record.specs.Tables.{Tables}
+use Rattle.record.proofs.Formed.{inside}
 use Rattle.build.specs.Build.{Outcome, refused, finish, outcome}
 use Rattle.build.specs.Inner.Ready.{Listed}
 
@@ -41,6 +42,23 @@ or-given r s h = go (r .number) h
 pub or-passed : (r s : Refusal) → r .number ≡ 0 → orElse (r .number) r s ≡ s
 or-passed r s h = rw h
 
+-- ---- what every rung has, the ladder has
+
+module _ (P : Refusal → Type 0) where
+  -- a rung that is passed leaves it to the others
+  pub ladder-more : (r : Refusal) (rs : List Refusal) → P r → (r .number ≡ 0 → P (ladder rs)) → P (ladder (r ∷ rs))
+  unfolding ladder
+  ladder-more r rs h l = go (r .number) refl
+    where
+      go : (m : ℕ) → r .number ≡ m → P (orElse m r (ladder rs))
+      go zero e = l e
+      go (suc m) e = h
+
+  pub ladder-all : P accepted → (rs : List Refusal) → All P rs → P (ladder rs)
+  unfolding ladder
+  ladder-all none [] a = none
+  ladder-all none (r ∷ rs) a = ladder-more r rs (a .0) (λ z. ladder-all none rs (a .1))
+
 -- ---- rung by rung
 
 module _ (m : ℕ) (rs : List Refusal) where
@@ -63,13 +81,23 @@ module _ (m : ℕ) (rs : List Refusal) where
 
 -- ---- past it
 
-pub pass : (r : Refusal) (rs : List Refusal) → ladder (r ∷ rs) .number ≡ 0 → (r .number ≡ 0) × (ladder rs .number ≡ 0)
+pass : (r : Refusal) (rs : List Refusal) → ladder (r ∷ rs) .number ≡ 0 → (r .number ≡ 0) × (ladder rs .number ≡ 0)
 unfolding ladder
 pass r rs h = go (r .number) refl h
   where
     go : (m : ℕ) → r .number ≡ m → orElse m r (ladder rs) .number ≡ 0 → (r .number ≡ 0) × (ladder rs .number ≡ 0)
     go zero e h = (e, h)
     go (suc m) e h = absurd (omega arith)
+
+-- every rung is passed, and so is rung i, from 0
+pub pass-all : (rs : List Refusal) → ladder rs .number ≡ 0 → All (λ r. r .number ≡ 0) rs
+pass-all [] h = tt
+pass-all (r ∷ rs) h = let p = pass r rs h in (p .0, pass-all rs (p .1))
+
+pub pass-at : (rs : List Refusal) → ladder rs .number ≡ 0 → (i : ℕ) → getD rs i accepted .number ≡ 0
+pass-at [] h i = refl
+pass-at (r ∷ rs) h zero = pass r rs h .0
+pass-at (r ∷ rs) h (suc i) = pass-at rs (pass r rs h .1) i
 
 pub if-passed : (m : ℕ) (t : Bool) → refuseIf (suc m) t .number ≡ 0 → t ≡ false
 if-passed m true h = absurd (omega arith)
@@ -78,9 +106,6 @@ if-passed m false h = refl
 pub at-passed : (m i : ℕ) → refuseAt (suc m) i .number ≡ 0 → i ≡ 0
 at-passed m zero h = refl
 at-passed m (suc i) h = absurd (omega arith)
-
-pub in-bounds : (low high x : ℕ) → outside low high x ≡ false → (low ≤ x) × (x ≤ high)
-in-bounds low high x h = let o = or-false (ltb x low) (ltb high x) h in (ltb-false x low (o .0), ltb-false high x (o .1))
 
 -- what checks 1 to 7 leave
 pub record ListPassed (n : ℕ) (second : Refusal) (cells : ℕ) (vs : List ℕ) (g aux : ℕ) : Type 0 where
@@ -99,29 +124,27 @@ beyond-none n vs h = all-map _ _ (λ v e. leb-false (2 ^ n) v e) vs (none-all (�
 pub list-passed : (n : ℕ) (second : Refusal) (cells : ℕ) (vs : List ℕ) (g aux : ℕ) → ladder (listChecks n second cells vs g aux) .number ≡ 0
     → ListPassed n second cells vs g aux
 list-passed n second cells vs g aux h =
-    let p1 = pass _ _ h in
-    let p2 = pass _ _ (p1 .1) in
-    let p3 = pass _ _ (p2 .1) in
-    let p4 = pass _ _ (p3 .1) in
-    let p5 = pass _ _ (p4 .1) in
-    let p6 = pass _ _ (p5 .1) in
-    let p7 = pass _ _ (p6 .1) in
-    let b1 = in-bounds 1 maxInputs n (if-passed 0 _ (p1 .0)) in
-    let b3 = in-bounds 1 maxVectors (length vs) (if-passed 2 _ (p3 .0)) in
-    let b4 = in-bounds 1 maxCells cells (if-passed 3 _ (p4 .0)) in
-    let b5 = or-false (ltb g cells) (ltb aux (suc (length vs))) (if-passed 4 _ (p5 .0)) in
+    let p = pass-at (listChecks n second cells vs g aux) h in
+    let b1 = inside 1 maxInputs n (if-passed 0 _ (p 0)) in
+    let b3 = inside 1 maxVectors (length vs) (if-passed 2 _ (p 2)) in
+    let b4 = inside 1 maxCells cells (if-passed 3 _ (p 3)) in
+    let b5 = or-false (ltb g cells) (ltb aux (suc (length vs))) (if-passed 4 _ (p 4)) in
     record {
       some-inputs = b1 .0;
-      two = p2 .0;
-      listed = record { inputs = b1 .1; some = b3 .0; few = b3 .1; within = beyond-none n vs (at-passed 5 _ (p6 .0)) };
+      two = p 1;
+      listed = record { inputs = b1 .1; some = b3 .0; few = b3 .1; within = beyond-none n vs (at-passed 5 _ (p 5)) };
       some-cells = b4 .0;
       few-cells = b4 .1;
       cells-fit = ltb-false g cells (b5 .0);
       words-fit = ltb-false aux (suc (length vs)) (b5 .1);
-      distinct = at-passed 6 _ (p7 .0);
+      distinct = at-passed 6 _ (p 6);
     }
 
 -- ---- the outcome
+
+-- its number and place
+abbrev pub refusalOf : Outcome → Refusal
+refusalOf o = record { number = o .built .refusal; place = o .built .place }
 
 module _ (r : Refusal) (n n1 : ℕ) (ks : List Kind) (cells a : ℕ) (vs : List ℕ) (t : Tables) where
   pub outcome-refused : (r .number ≡ 0 → ⊥) → outcome r n n1 ks cells a vs t ≡ refused r t

@@ -9,7 +9,7 @@ use Rattle.build.specs.declared.Refusal.{Refusal}
 use Rattle.build.specs.Refusals.{ladder, refuseIf, listChecks, check2Chosen}
 use Rattle.build.specs.declared.Built.{Built}
 use Rattle.record.specs.Tables.{Tables, lent}
-use Rattle.build.specs.Build.{after, refused}
+use Rattle.build.specs.Build.{after}
 use Rattle.build.proofs.Refusing.Ladder.{ListPassed, list-passed}
 use Rattle.build.proofs.Holding.Passed.{chosen-split}
 use Rattle.build.proofs.Refusing.Builds.{chosenList, chosen-list, chosen-apart, chosen-same, chosen-rest}

@@ -9,9 +9,8 @@ use lib.Seq.{length-take-le}
 use borrow.Author.Tests.{not-true, not-false}
 use Rattle.vectors.specs.Bounds.{maxVectors, maxWords}
 use Rattle.record.specs.Tables.{Tables, lent}
-use Rattle.record.proofs.Formed.{few-words}
 use Rattle.recover.specs.Every.{listed}
-use Rattle.recover.proofs.Every.{listed-formed}
+use Rattle.recover.proofs.Every.{listed-few}
 use Rattle.print.specs.Print.{fitted}
 use Rattle.listing.proofs.Lists.{list-not, words-many, list-printed}
 use borrow.Author.Needs.{needs}
@@ -32,7 +31,7 @@ is-listed : (e : tie.Else1) → listed (start e .args .unit) (tables (start e)) 
 is-listed e = sym (e .before .recover-all .ensures .0) ∙ not-false _ (e .if1 .left)
 
 few : (e : tie.Else1) → start e .args .unit .k ≤ maxVectors
-few e = few-words _ _ (listed-formed _ _ (is-listed e)) .0
+few e = listed-few _ _ (is-listed e) .0
 
 size : length (replicate {A = ℕ} maxWords 0) ≡ maxWords
 size = length-replicate {A = ℕ} maxWords 0

@@ -14,6 +14,11 @@ all-in P x [] a m = absurd m
 all-in P x (y ∷ l) a (inl e) = rw e (a .0)
 all-in P x (y ∷ l) a (inr m) = all-in P x l (a .1) m
 
+-- what holds of every member holds of all
+pub all-of : {A : Type 0} (P : A → Type 0) (l : List A) → ((x : A) → In x l → P x) → All P l
+all-of P [] h = tt
+all-of P (x ∷ l) h = (h x (inl refl), all-of P l (λ y i. h y (inr i)))
+
 pub in-pos : {A : Type 0} (x : A) (l : List A) → In x l → 0 < length l
 in-pos x [] m = absurd m
 in-pos x (y ∷ l) m = omega arith

@@ -10,10 +10,9 @@ use Rattle.lists.proofs.Writing.Storing.{Storing, storing-none}
 use Rattle.vectors.specs.Bounds.{maxVectors}
 use Rattle.record.specs.Tables.{Tables, lent}
 use Rattle.record.specs.Inner.Formed.{WellFormed}
-use Rattle.record.proofs.Formed.{well-formed-facts, few-words}
 use Rattle.recover.specs.Recover.{firstCell}
 use Rattle.recover.specs.Every.{listed, listIn}
-use Rattle.recover.proofs.Every.{listed-formed, listed-firsts}
+use Rattle.recover.proofs.Every.{listed-tested, listed-formed, listed-few, listed-firsts}
 use Rattle.recover.proofs.Stored.{into-unlisted, first-low, vectors-more, vectors-end}
 use borrow.Author.Needs.{needs}
 use Rattle.recover.proofs.recover_all.Statement.{statement}
@@ -36,10 +35,10 @@ is-listed : (e : tie.Else1 Inv-loop μ-loop) → listed (start e .args .unit) (t
 is-listed e = sym (e .before .listed .ensures .0) ∙ not-false _ (e .if1 .left)
 
 facts : (e : tie.Else1 Inv-loop μ-loop) → WellFormed (start e .args .unit) (tables (start e))
-facts e = well-formed-facts _ _ (listed-formed _ _ (is-listed e))
+facts e = listed-formed _ _ (is-listed e)
 
 few : (e : tie.Else1 Inv-loop μ-loop) → start e .args .unit .k ≤ maxVectors
-few e = few-words _ _ (listed-formed _ _ (is-listed e)) .0
+few e = listed-few _ _ (is-listed e) .0
 
 -- what stands in the words for the first cells
 first-is : (e : tie.Else1 Inv-loop μ-loop) (i : ℕ) → i < start e .args .unit .k → getD (e .before .listed .last .1 .1 .1 .1 .0) (i + 1) 0 ≡ firstCell (start e .args .unit) (tables (start e)) (i + 1)
@@ -93,7 +92,7 @@ loop-again c =
     let e = l .before in
     let s = start e in
     vectors-more _ _ (is-listed e) (l .loop .i) _ h (first-is e (l .loop .i) h) (s .args .words .now) (l .loop .words) (l .loop .inv) (c .from-cell .result)
-    (c .from-cell .ensures (s .args .g .now) (s .args .aux .now) (listed-formed _ _ (is-listed e)))
+    (c .from-cell .ensures (s .args .g .now) (s .args .aux .now) (listed-tested _ _ (is-listed e)))
 
 returns-2 : tie.Need-returns-2 Inv-loop μ-loop
 returns-2 c =

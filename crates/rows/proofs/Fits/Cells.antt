@@ -11,7 +11,8 @@ use lib.ListN.{length, getD, set, length-set}
 use lib.Seq.{getD-set-same, getD-set-other}
 use borrow.Author.Tests.{ltb-true, eqb-true, eqb-false}
 use Rattle.lists.proofs.Tests.{and-true}
-use Rattle.lists.specs.Members.{In}
+use Rattle.lists.specs.Members.{In, All}
+use Rattle.lists.proofs.Entries.Members.{all-in, all-of}
 use Rattle.rows.specs.Care.{Care, caresBy, keep, inRow}
 use Rattle.rows.specs.Fit.{cellOf, isFree, inside, clear, fitsAt, put}
 use Rattle.rows.proofs.Fits.First.{fits-in}
@@ -33,6 +34,10 @@ in-row r c (e ∷ cs) i = go (eqb (e .row) r) refl i (in-row r c cs)
     go : (t : Bool) → eqb (e .row) r ≡ t → In c (keep t e (inRow r cs)) → (In c (inRow r cs) → In c cs × (c .row ≡ r)) → In c (e ∷ cs) × (c .row ≡ r)
     go true q i u = ⊎-elim (λ p. (inl p, ap (λ (x : Care). x .row) p ∙ eqb-true (e .row) r q)) (λ p. (inr (u p .0), u p .1)) i
     go false q i u = let v = u i in (inr (v .0), v .1)
+
+-- what holds of all vectors holds of those of a row
+pub all-row : (Q : Care → Type 0) (r : ℕ) (cs : List Care) → All Q cs → All Q (inRow r cs)
+all-row Q r cs a = all-of Q (inRow r cs) (λ c i. all-in Q c cs a (in-row r c cs i .0))
 
 pub row-in : (r : ℕ) (c : Care) (cs : List Care) → In c cs → c .row ≡ r → In c (inRow r cs)
 unfolding inRow

@@ -1,5 +1,6 @@
 -- First fit goes by the columns alone, and of a row and more vectors part by part. Assumes nothing.
-use Prim.Native.Nat.{ℕ, zero, suc, _+_, _<_, max}
+use Prim.Native.Nat.{ℕ, zero, suc, _+_, _≤_, _<_, max}
+use native.Mathlib.Omega.{arith}
 use mathlib.Core.Path.{_≡_, refl, sym, ap, ap₂, _∙_}
 use mathlib.Core.Bool.{Bool, true, false, _&&_}
 use mathlib.Core.List.{List, [], _∷_, _++_, map}
@@ -7,12 +8,15 @@ use lib.Dec.{ltb}
 use lib.ListN.{length, set}
 use borrow.Author.Tests.{lt-ltb}
 use Rattle.lists.specs.Members.{All}
+use Rattle.lists.proofs.Entries.Members.{all-map}
 use Rattle.lists.proofs.Tests.{and-assoc}
-use Rattle.rows.specs.Care.{Care}
+use Rattle.rows.specs.Care.{Care, inRow}
 use Rattle.rows.specs.Fit.{cellOf, isFree, inside, clear, freeFrom, reach, needed, fitFrom, firstFit, put}
+use Rattle.rows.specs.Demand.{Columns}
 use Rattle.rows.specs.declared.Fit.the-variants.{None}
 use Rattle.rows.proofs.Fits.First.{step-out, step-here, step-on}
 use Rattle.rows.proofs.Fits.Needed.{free-same}
+use Rattle.rows.proofs.Fits.Cells.{all-row}
 
 -- ---- vectors changed, but for their columns
 
@@ -74,3 +78,13 @@ pub inside-all : (cells d : ℕ) (m : List Care) → All (λ c. cellOf c d < cel
 unfolding inside
 inside-all cells d [] a = refl
 inside-all cells d (c ∷ m) a = rw (lt-ltb (cellOf c d) cells (a .0)) (inside-all cells d m (a .1))
+
+columns-all : (columns : ℕ) (cs : List Care) → Columns columns cs → All (λ c. c .column < columns) cs
+columns-all columns [] q = tt
+columns-all columns (c ∷ cs) q = (q .0, columns-all columns cs (q .1))
+
+-- it is, with so many cells behind the displacement as there are columns
+pub row-inside : (columns cells d : ℕ) → d + columns ≤ cells → (r : ℕ) (cs : List Care) → Columns columns cs → inside cells d (inRow r cs) ≡ true
+row-inside columns cells d l r cs q =
+    inside-all cells d (inRow r cs)
+    (all-map (λ c. c .column < columns) (λ c. cellOf c d < cells) (λ c h. omega arith) (inRow r cs) (all-row (λ c. c .column < columns) r cs (columns-all columns cs q)))

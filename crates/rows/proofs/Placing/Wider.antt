@@ -9,9 +9,10 @@ use mathlib.Core.Logic.{_⊎_, inl, inr, ⊎-elim}
 use lib.Dec.{eqb, ltb}
 use lib.ListN.{length, getD, set, length-set}
 use lib.Seq.{getD-set-same, getD-set-other}
-use borrow.Author.Tests.{eqb-true, eqb-false, ltb-true, lt-ltb}
+use borrow.Author.Tests.{eqb-true, eqb-false, ltb-true}
 use Rattle.lists.specs.First.{has}
 use Rattle.lists.specs.Members.{In}
+use Rattle.lists.proofs.Entries.Members.{all-of}
 use Rattle.lists.proofs.Finding.Has.{has-self, has-other}
 use Rattle.lists.proofs.Tests.{and-true, le-or-lt}
 use Rattle.rows.specs.Care.{Care, inRow, weightOf, openWeight, Heavy, heaviest}
@@ -26,7 +27,7 @@ use Rattle.rows.specs.declared.Fit.the-variants.{At, None}
 use Rattle.rows.proofs.Fits.First.{fit-none, fit-inside}
 use Rattle.rows.proofs.Fits.Needed.{FirstFree, first-free, needed-is, fit-enough, fit-same, fit-short, none-short, inside-reach, needed-low}
 use Rattle.rows.proofs.Fits.Cells.{in-row, put-length}
-use Rattle.rows.proofs.Demand3.{row-columns, columns-inside}
+use Rattle.rows.proofs.Fits.Columns.{inside-all, row-inside}
 use Rattle.rows.proofs.Placing.Open.{open-not, open-weight}
 use Rattle.rows.proofs.Placing.Turns.{next, Next, place-none, place-stuck, place-more, is-next, at-end-in, ended, cells-length, all-no-fit}
 
@@ -235,7 +236,7 @@ module _ (cs : List Care) (h g : List ℕ) (r t n : ℕ) (z : place cs h g .end 
   pub stuck-low : (columns : ℕ) → Columns columns cs → n ≤ length g + columns
   stuck-low columns c =
       let G = place cs h g .state .g in
-      let i = columns-inside columns (length G + columns) (length G) (omega arith) (inRow r cs) (row-columns columns r cs c) in
+      let i = row-inside columns (length G + columns) (length G) (omega arith) r cs c in
       omega (arith, cells-length cs h g, fit-none G (inRow r cs) t n (ended cs h g .no-fit r t n z .1) .1, needed-low G (inRow r cs) columns i)
 
   pub least : Least cs h g r n
@@ -252,11 +253,6 @@ module _ (cs : List Care) (h g : List ℕ) (r t n : ℕ) (z : place cs h g .end 
 
 -- ---- where every row fits, and lies within fewer cells, every row fits into these
 
-pub inside-all : (cells d : ℕ) (m : List Care) → ((c : Care) → In c m → c .column + d < cells) → inside cells d m ≡ true
-unfolding inside
-inside-all cells d [] a = refl
-inside-all cells d (c ∷ m) a = rw (lt-ltb (cellOf c d) cells (a c (inl refl))) (inside-all cells d m (λ x i. a x (inr i)))
-
 pub within-all : (cs : List Care) (h g g' : List ℕ) → More g' g → place cs h g .end ≡ All
     → ((c : Care) → In c cs → c .column + getD (place cs h g .state .h) (c .row) 0 < length g') → place cs h g' .end ≡ All
 within-all cs h g g' k e a = go (place cs h g' .end) refl
@@ -269,7 +265,7 @@ within-all cs h g g' k e a = go (place cs h g' .end) refl
     go (Over r) z = absurd (ended cs h g' .not-over r z)
     go Unfit z = absurd (ended cs h g' .not-unfit z)
     go (NoFit r t n) z =
-        let i = inside-all (length g') (getD H r 0) (inRow r cs) (λ c j. let p = in-row r c cs j in rw (← p .1) (a c (p .0))) in
+        let i = inside-all (length g') (getD H r 0) (inRow r cs) (all-of _ (inRow r cs) (λ c j. let p = in-row r c cs j in rw (← p .1) (a c (p .0)))) in
         ⊎-elim
         (λ l. absurd (omega (arith, least cs h g' r t n z .above, inside-reach (length g') (getD H r 0) (inRow r cs) i, wider-reach cs h g' g k r t n z l)))
         (λ l. absurd (all-no-fit (sym e ∙ wider-still cs h g' g k r t n z l .1)))

@@ -3,12 +3,12 @@ use Prim.Native.Nat.{ℕ, _+_, _≤_, _<_}
 use native.Mathlib.Omega.{arith}
 use mathlib.Core.Path.{_≡_, refl, sym, ap, _∙_}
 use mathlib.Core.Bool.{true, true≢false}
-use mathlib.Core.List.{List, [], _∷_}
+use mathlib.Core.List.{List}
 use mathlib.Core.Logic.{_⊎_, inl, inr, ⊎-elim}
 use lib.ListN.{length, getD}
 use Rattle.lists.specs.First.{has}
 use Rattle.lists.specs.Members.{In, All}
-use Rattle.lists.proofs.Entries.Members.{all-in, in-pos}
+use Rattle.lists.proofs.Entries.Members.{all-in, all-of, in-pos}
 use Rattle.rows.specs.Care.{Care, inRow, weightOf}
 use Rattle.rows.specs.Place.{State}
 use Rattle.rows.specs.Answer.{caresIn, caresOf}
@@ -19,11 +19,6 @@ use Rattle.rows.proofs.Placing.Held.{Lies, Clearing}
 use Rattle.rows.proofs.Sweeps.Marks.{RowState, shut, marked}
 use Rattle.rows.proofs.Sweeps.Undoing.{Leads, Free, Undoing, undone-is}
 use Rattle.rows.proofs.Answers.Owned.{owned-undone, all-owned, all-own}
-
--- what holds of every member holds of all
-all-of : {A : Type 0} (Q : A → Type 0) (l : List A) → ((x : A) → In x l → Q x) → All Q l
-all-of Q [] h = tt
-all-of Q (x ∷ l) h = (h x (inl refl), all-of Q l (λ y i. h y (inr i)))
 
 -- the rows h and the cells g can be taken back to g₀
 pub record WayBack (ws g₀ h g : List ℕ) : Type 0 where

@@ -12,7 +12,7 @@ use Rattle.lists.specs.Members as Members
 use Rattle.vectors.specs.Bounds.{maxCells}
 use Rattle.rows.specs.Care.{Care, inRow, openWeight}
 use Rattle.rows.specs.Fit.{firstFit, put}
-use Rattle.rows.specs.Place.{State, Placing, place, placeRow, placeIn}
+use Rattle.rows.specs.Place.{State, Placing, place, placeRow}
 use Rattle.rows.specs.Demand.{filled}
 use Rattle.rows.specs.Allowance.{endWithin}
 use Rattle.rows.specs.Answer.{rowIn, columnIn, caresIn, caresOf, owned, left, settled}
@@ -120,12 +120,12 @@ pub record AtLevel (a owner : ℕ) (ws : List ℕ) (n : ℕ) (g₀ h g : List �
 
 module _ (owner : ℕ) (ws : List ℕ) (rises : Rises 0 ws) (weighs : Weighs 0 ws) (n : ℕ) (g₀ h g : List ℕ) (tries level below i : ℕ)
     (go : Going owner ws n g₀ h g tries level below i) where
-  -- the last row is passed
-  pub going-next : length h ≤ i → Going owner ws n g₀ h g tries below 0 0
-  going-next l =
+  -- only the sweep goes on
+  swept : (level' below' i' : ℕ) → Sweep (caresOf owner ws) (plan owner ws n g₀) (go .state) level' below' i' → Going owner ws n g₀ h g tries level' below' i'
+  swept level' below' i' s =
       record {
         state = go .state;
-        sweep = sweep-next (caresOf owner ws) (plan owner ws n g₀) (go .state) level below i (omega (arith, go .size)) (go .sweep);
+        sweep = s;
         states = go .states;
         size = go .size;
         all-rows = go .all-rows;
@@ -135,6 +135,10 @@ module _ (owner : ℕ) (ws : List ℕ) (rises : Rises 0 ws) (weighs : Weighs 0 w
         clearing = go .clearing;
         room = go .room;
       }
+
+  -- the last row is passed
+  pub going-next : length h ≤ i → Going owner ws n g₀ h g tries below 0 0
+  going-next l = swept below 0 0 (sweep-next (caresOf owner ws) (plan owner ws n g₀) (go .state) level below i (omega (arith, go .size)) (go .sweep))
 
   -- no level is left
   pub going-end : (a : ℕ) → tries ≤ a → level ≤ 0 → left (record { end = All; tries = tries }) h g ≡ settled a (caresOf owner ws) n g₀
@@ -156,19 +160,7 @@ module _ (owner : ℕ) (ws : List ℕ) (rises : Rises 0 ws) (weighs : Weighs 0 w
         ⊎-elim (λ e. absurd (n e)) (λ m. m) (eq-or-lt-of-le (rw (← weight-is) at (go .sweep .most i (omega (arith, go .size)))))
 
     pass : (b : ℕ) → below ≤ b → w ≤ b → (0 < level → b < level) → Going owner ws n g₀ h g tries level b (i + 1)
-    pass b m o u =
-        record {
-          state = go .state;
-          sweep = sweep-pass (caresOf owner ws) (plan owner ws n g₀) (go .state) level below i (go .sweep) b m (rw weight-is at o) u;
-          states = go .states;
-          size = go .size;
-          all-rows = go .all-rows;
-          cells = go .cells;
-          tried = go .tried;
-          counts = go .counts;
-          clearing = go .clearing;
-          room = go .room;
-        }
+    pass b m o u = swept level b (i + 1) (sweep-pass (caresOf owner ws) (plan owner ws n g₀) (go .state) level below i (go .sweep) b m (rw weight-is at o) u)
 
     -- it is of another weight, no greater than one passed
     pub going-pass : (w ≡ level → ⊥) → w ≤ below → Going owner ws n g₀ h g tries level below (i + 1)

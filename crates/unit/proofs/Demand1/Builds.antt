@@ -1,5 +1,5 @@
 -- Demand 1, of both builds. Assumes nothing.
-use Prim.Native.Nat.{ℕ, _≤_, _<_}
+use Prim.Native.Nat.{ℕ, _≤_}
 use native.Mathlib.Omega.{arith}
 use mathlib.Core.Path.{_≡_, refl, sym, ap, _∙_}
 use mathlib.Core.List.{List, [], _∷_, _++_}
@@ -14,11 +14,12 @@ use Rattle.rows.proofs.Placing.Allowed.{within-all, within-stuck}
 use Rattle.record.specs.Tables.{Tables}
 use Rattle.build.specs.declared.Refusal.{Refusal}
 use Rattle.build.specs.Refusals.{accepted, orElse, ladder, listChecks, givenChecks, check2Chosen, check2Given, check11, check12}
-use Rattle.build.specs.Build.{rowsShare, Outcome, placingOf, outcome, chosenKinds, chosenRefusal, givenRefusal, buildChosen, buildGiven}
-use Rattle.build.proofs.Refusing.Ladder.{ladder-append, or-given, or-passed}
+use Rattle.build.specs.Build.{rowsShare, placingOf, outcome, chosenKinds, chosenRefusal, givenRefusal, buildChosen, buildGiven}
+use Rattle.build.proofs.Refusing.Ladder.{ladder-append, or-given, or-passed, refusalOf}
+use Rattle.build.proofs.Places.{chosen-small, given-small}
 use Rattle.build.proofs.Holding.Ends.{placing-ends, placing-over, placing-fit, Comes, early, whole, stuck, over, comes}
 use Rattle.unit.specs.Demand1.{Cause, Gives, cause, WrongDegree, TooMany, PairLeft, FewRows, Stuck, Over, listCauses, variableCauses, Leaves, Demand1, Demand1Chosen, Demand1Given}
-use Rattle.unit.proofs.Demand1.Ladder.{Answers, AnswersAll, answers-append, ladder-gives, answers-one, gives-one, Below, gives-below}
+use Rattle.unit.proofs.Demand1.Ladder.{Answers, AnswersAll, answers-append, ladder-gives, answers-one, gives-one}
 use Rattle.unit.proofs.Demand1.Checks.{list-chosen, list-given, given-answers, pair-answers, rows-answers}
 use Rattle.unit.proofs.Demand1.Stuck.{no-fit-stuck, all-stuck, stuck-same}
 use Rattle.unit.proofs.Demand1.Over.{exceeded-over, within-over, over-same}
@@ -36,14 +37,6 @@ stuckAt (ends.NoFit row tried needed) = record { number = 13; place = row }
 stuckAt (ends.Over row) = accepted
 stuckAt ends.Unfit = accepted
 
--- number and place of an outcome
-abbrev refusalOf : Outcome → Refusal
-refusalOf o = record { number = o .built .refusal; place = o .built .place }
-
--- causes with numbers below 13: the checks give a number below 13
-below-13 : (rs : List Refusal) (cs : List Cause) → Below 13 cs → AnswersAll rs cs → ladder rs .number < 13
-below-13 rs cs l a = gives-below 13 cs (omega arith) l (ladder rs .number) (ladder rs .place) (ladder-gives rs cs a)
-
 module _ (n n1 : ℕ) (ks : List Kind) (cells allowance : ℕ) (vs : List ℕ) (t : Tables) where
   abbrev P : Placing
   P = placingOf n1 ks cells vs
@@ -54,7 +47,7 @@ module _ (n n1 : ℕ) (ks : List Kind) (cells allowance : ℕ) (vs : List ℕ) (
 
   -- ---- what a refused outcome leaves
 
-  outcome-leaves : (r : Refusal) → r .number < 13 → Leaves n1 cells (length vs) t (outcome r n n1 ks cells allowance vs t)
+  outcome-leaves : (r : Refusal) → r .number ≤ 12 → Leaves n1 cells (length vs) t (outcome r n n1 ks cells allowance vs t)
   outcome-leaves r low = go (comes n n1 ks cells allowance vs t r)
     where
       go : Comes n n1 ks cells allowance vs t r → Leaves n1 cells (length vs) t (outcome r n n1 ks cells allowance vs t)
@@ -115,7 +108,7 @@ module _ (n n1 : ℕ) (ks : List Kind) (cells allowance : ℕ) (vs : List ℕ) (
       go ends.Unfit q = absurd (placing-fit n1 ks cells vs q)
 
   -- the checks answer for the causes, and so the outcome meets demand 1
-  outcome-demand-1 : (rs : List Refusal) (cs : List Cause) → Below 13 cs → AnswersAll rs cs
+  outcome-demand-1 : (rs : List Refusal) (cs : List Cause) → ladder rs .number ≤ 12 → AnswersAll rs cs
       → Demand1 (cs ++ (cause41 ∷ cause13 ∷ [])) n1 cells (length vs) t (outcome (ladder rs) n n1 ks cells allowance vs t)
   outcome-demand-1 rs cs low a =
       let o = outcome (ladder rs) n n1 ks cells allowance vs t in
@@ -125,13 +118,10 @@ module _ (n n1 : ℕ) (ks : List Kind) (cells allowance : ℕ) (vs : List ℕ) (
       record {
         refusal = g;
         only = λ number place h. gives-one all (answers-one (rs ++ lasts) all b) _ _ number place g h;
-        leaves = outcome-leaves (ladder rs) (below-13 rs cs low a);
+        leaves = outcome-leaves (ladder rs) low;
       }
 
 -- ---- the builds
-
-list-below : (b n : ℕ) (second : Type 0) (cells : ℕ) (vs : List ℕ) (t : Tables) (cs : List Cause) → 7 < b → Below b cs → Below b (listCauses n second cells vs t ++ cs)
-list-below b n second cells vs t cs k l = (omega arith, (omega arith, (omega arith, (omega arith, (omega arith, (omega arith, (omega arith, l)))))))
 
 pub chosen-demand-1 : Demand1Chosen buildChosen
 unfolding buildChosen chosenRefusal
@@ -141,7 +131,7 @@ chosen-demand-1 n degree cells allowance vs t =
     let list : List Refusal = listChecks n (check2Chosen degree) cells vs (length (t .g)) (length (t .aux)) in
     let own : List Cause = cause 11 (PairLeft ks vs) ∷ cause 12 (FewRows n1 t) ∷ [] in
     outcome-demand-1 n n1 ks cells allowance vs t (list ++ (check11 ks vs ∷ check12 n1 (t .h) ∷ [])) (listCauses n (WrongDegree degree) cells vs t ++ own)
-    (list-below 13 n (WrongDegree degree) cells vs t own (omega arith) (omega arith, (omega arith, tt)))
+    (chosen-small n degree vs cells t .number-low)
     (answers-append list (listCauses n (WrongDegree degree) cells vs t) (check11 ks vs ∷ check12 n1 (t .h) ∷ []) own
     (list-chosen n degree cells vs t) (pair-answers n degree vs, (rows-answers n1 t, tt)))
 
@@ -155,5 +145,5 @@ given-demand-1 n variables p n1 cells allowance vs t =
     let b : AnswersAll checks own =
     answers-append (givenChecks n ks vs) (variableCauses n ks vs) (check12 n1 (t .h) ∷ []) (cause 12 (FewRows n1 t) ∷ []) (given-answers n ks vs) (rows-answers n1 t, tt) in
     outcome-demand-1 n n1 ks cells allowance vs t (list ++ checks) (listCauses n (TooMany p n1) cells vs t ++ own)
-    (list-below 13 n (TooMany p n1) cells vs t own (omega arith) (omega arith, (omega arith, (omega arith, (omega arith, tt)))))
+    (given-small n variables p n1 vs cells t .number-low)
     (answers-append list (listCauses n (TooMany p n1) cells vs t) checks own (list-given n p n1 cells vs t) b)

@@ -3,11 +3,10 @@ use Prim.Native.Nat.{ℕ, _-_, _^_, _≤_}
 use mathlib.Core.Path.{_≡_, sym, _∙_}
 use mathlib.Core.Bool.{Bool, true, false, not, _&&_, true≢false}
 use lib.Count.{ones}
-use lib.Dec.{eqb, leb, ltb}
 use lib.ListN.{length}
-use borrow.Author.Tests.{ltb-true, leb-true, eqb-true, eq-eqb, le-leb, lt-ltb, le-ltb, not-true}
+use borrow.Author.Tests.{eq-eqb, le-leb, lt-ltb, le-ltb}
 use Rattle.lists.proofs.Tests.{and-true}
-use Rattle.lists.proofs.Finding.NonePass.{none-all, all-none}
+use Rattle.lists.proofs.Finding.NonePass.{all-none}
 use Rattle.vectors.specs.Bounds.{maxInputs, maxVectors, maxCells, maxVariables, maxSide, outside, tooMany}
 use Rattle.vectors.specs.Variable.{faulty, firstFaulty}
 use Rattle.span.specs.Span.{kept, firstDependent, soundOf}
@@ -15,8 +14,8 @@ use Rattle.span.proofs.Fixed.{sound-facts}
 use Rattle.record.specs.declared.Record.{Record}
 use Rattle.record.specs.Record.{kindsIn}
 use Rattle.record.specs.Tables.{Tables}
-use Rattle.record.specs.Formed.{inBounds, rightInputs, longEnough, wellFormed, sound}
-use Rattle.record.proofs.Formed.{inside, few}
+use Rattle.record.specs.Formed.{wellFormed, sound}
+use Rattle.record.proofs.Formed.{well-formed-facts, formed-numbers}
 use Rattle.unit.specs.Demand1.{Formed, Sound}
 use Rattle.unit.proofs.Demand1.Checks.{none-dependent, dependent-none}
 
@@ -31,32 +30,19 @@ not-many p n1 a b c d = rw (le-ltb maxVariables p a, le-ltb p n1 b, le-ltb maxSi
 
 module _ (u : Record) (t : Tables) where
   pub formed-yes : wellFormed u t ≡ true → Formed u t
-  unfolding wellFormed
   formed-yes h =
-      let long = and-true (inBounds u && rightInputs u) (longEnough u t) h in
-      let right = and-true (inBounds u) (rightInputs u) (long .0) in
-      let words = and-true (leb (2 ^ u .n1) (length (t .h)) && leb (u .cells) (length (t .g))) (ltb (u .k) (length (t .aux))) (long .1) in
-      let rows = and-true (leb (2 ^ u .n1) (length (t .h))) (leb (u .cells) (length (t .g))) (words .0) in
-      let n = not (outside 1 maxInputs (u .n)) in
-      let k = not (outside 1 maxVectors (u .k)) in
-      let c = not (outside 1 maxCells (u .cells)) in
-      let p = leb (u .p) (u .n) in
-      let e = and-true (n && k && c && p) (not (tooMany (u .p) (u .n1))) (right .0) in
-      let d = and-true (n && k && c) p (e .0) in
-      let b = and-true (n && k) c (d .0) in
-      let a = and-true n k (b .0) in
-      let s = few (u .p) (u .n1) (not-true (tooMany (u .p) (u .n1)) (e .1)) in
-      let i = and-true (eqb (firstFaulty (u .n) (kindsIn u)) 0 && eqb (ones (u .kept)) (u .n - u .p)) (ltb (u .kept) (2 ^ u .n)) (right .1) in
-      let j = and-true (eqb (firstFaulty (u .n) (kindsIn u)) 0) (eqb (ones (u .kept)) (u .n - u .p)) (i .0) in
+      let b = formed-numbers u t h in
+      let s = b .sides in
+      let w = well-formed-facts u t h in
       record {
-        inputs = inside 1 maxInputs (u .n) (not-true (outside 1 maxInputs (u .n)) (a .0));
-        vectors = inside 1 maxVectors (u .k) (not-true (outside 1 maxVectors (u .k)) (a .1));
-        some-cells = inside 1 maxCells (u .cells) (not-true (outside 1 maxCells (u .cells)) (b .1));
-        few = (leb-true (u .p) (u .n) (d .1), s .all-few);
+        inputs = b .inputs;
+        vectors = b .vectors;
+        some-cells = b .cells;
+        few = (b .within, s .all-few);
         sides = (s .rows-in, s .rows-few, s .columns-few);
-        none-faulty = none-all (faulty (u .n)) (kindsIn u) (eqb-true (firstFaulty (u .n) (kindsIn u)) 0 (j .0));
-        kept-right = (eqb-true (ones (u .kept)) (u .n - u .p) (j .1), ltb-true (u .kept) (2 ^ u .n) (i .1));
-        long-enough = (leb-true (2 ^ u .n1) (length (t .h)) (rows .0), leb-true (u .cells) (length (t .g)) (rows .1), ltb-true (u .k) (length (t .aux)) (words .1));
+        none-faulty = w .inputs .right;
+        kept-right = (w .inputs .kept-number, w .inputs .kept-in);
+        long-enough = (w .rows-held, w .cells-held, w .words-held);
       }
 
   yes-formed : Formed u t → wellFormed u t ≡ true

@@ -1,5 +1,5 @@
 -- Checks that answer for causes: the ladder gives the first that has a cause, and no other. Assumes nothing.
-use Prim.Native.Nat.{ℕ, zero, suc, _<_}
+use Prim.Native.Nat.{ℕ, zero, suc}
 use native.Mathlib.Omega.{arith}
 use mathlib.Core.Path.{_≡_, refl, sym, _∙_}
 use mathlib.Core.Bool.{Bool, true, false}
@@ -58,17 +58,6 @@ gives-one (c ∷ cs) a m p m′ p′ (inl g) (inl h) = (g .0 ∙ sym (h .0), a .
 gives-one (c ∷ cs) a m p m′ p′ (inl g) (inr h) = absurd (h .0 p (g .1))
 gives-one (c ∷ cs) a m p m′ p′ (inr g) (inl h) = absurd (g .0 p′ (h .1))
 gives-one (c ∷ cs) a m p m′ p′ (inr g) (inr h) = gives-one cs (a .1) m p m′ p′ (g .1) (h .1)
-
--- numbers below b
-abbrev pub Below : ℕ → List Cause → Type 0
-Below b [] = Unit {0}
-Below b (c ∷ cs) = (c .number < b) × Below b cs
-
--- .. so is the number given
-pub gives-below : (b : ℕ) (cs : List Cause) → 0 < b → Below b cs → (m p : ℕ) → Gives cs m p → m < b
-gives-below b [] z l m p g = omega (arith, g .0)
-gives-below b (c ∷ cs) z l m p (inl g) = omega (arith, g .0, l .0)
-gives-below b (c ∷ cs) z l m p (inr g) = gives-below b cs z (l .1) m p (g .1)
 
 -- ---- the two forms of a check
 

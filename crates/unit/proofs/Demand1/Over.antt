@@ -10,6 +10,7 @@ use lib.Dec.{ltb}
 use lib.ListN.{length, replicate, length-replicate}
 use borrow.Author.Tests.{ltb-true}
 use Rattle.lists.specs.Members.{In}
+use Rattle.lists.proofs.Entries.Members.{all-of}
 use Rattle.lists.proofs.Tests.{and-true}
 use Rattle.vectors.specs.declared.Kind.{Kind}
 use Rattle.rows.specs.Care.{Care, inRow}
@@ -22,7 +23,7 @@ use Rattle.rows.proofs.Fits.First.{fit-at, fit-none}
 use Rattle.rows.proofs.Placing.Open.{open-is}
 use Rattle.rows.proofs.Placing.Turns.{ended}
 use Rattle.rows.proofs.Placing.Allowed.{Exceeds, fitting, fitless, stops}
-use Rattle.rows.proofs.Placing.Wider.{inside-all}
+use Rattle.rows.proofs.Fits.Columns.{inside-all}
 use Rattle.build.specs.Build.{caresFrom, placingOf}
 use Rattle.unit.specs.Demand1.{InTurn, Blocked, Turn, Tried, OverAfter, Over}
 use Rattle.unit.proofs.Demand1.Stuck.{not-fits, fits-blocked, least-one, fit-least, turn-one, TurnsTo, triesIn, Reached, reached-start, reached-turn, reached, turn-here}
@@ -122,7 +123,7 @@ module _ (cs : List Care) (h g : List ℕ) (a : ℕ) where
           turns-within cs (length h) (q .turns) us a g [] (s .g) (s .order) r (q .lead) (omega (arith, q .spent))
           (λ x i.
           let k : x ≡ p = turn-one cs (length h) (s .order) x p i (turn-here cs h g s p q (e .0)) in
-          rw k ((λ d. not-fits (s .g) d (inRow p cs) (f .never d)), (λ all. true≢false (sym (inside-all (length (s .g)) (a - triesIn (q .turns)) (inRow p cs) all) ∙ f .beyond (a - triesIn (q .turns)) left))))
+          rw k ((λ d. not-fits (s .g) d (inRow p cs) (f .never d)), (λ all. true≢false (sym (inside-all (length (s .g)) (a - triesIn (q .turns)) (inRow p cs) (all-of _ (inRow p cs) all)) ∙ f .beyond (a - triesIn (q .turns)) left))))
           b
       go (ends.Over p) z = ended cs h g .not-over p z
       go ends.Unfit z = ended cs h g .not-unfit z

@@ -1,7 +1,7 @@
 -- Demand 1 refuted of wrong builds. Assumes nothing.
 use Prim.Native.Nat.{ℕ, suc}
 use native.Mathlib.Omega.{arith}
-use mathlib.Core.Path.{_≡_, refl, ap}
+use mathlib.Core.Path.{_≡_, ap}
 use mathlib.Core.Bool.{cond, _&&_}
 use mathlib.Core.List.{[], _∷_}
 use lib.Dec.{eqb, ltb}

@@ -5,10 +5,11 @@ use mathlib.Core.List.{List}
 use lib.ListN.{length, drop}
 use Rattle.lists.specs.First.{repeated}
 use Rattle.repeats.proofs.Limit.{few as few-words}
-use Rattle.vectors.specs.Bounds.{maxInputs, maxVectors, outside}
+use Rattle.vectors.specs.Bounds.{maxInputs, maxVectors}
 use Rattle.build.specs.declared.Refusal.{Refusal}
 use Rattle.build.specs.Refusals.{ladder, refuseIf, listChecks}
-use Rattle.build.proofs.Refusing.Ladder.{if-yes, if-no, at-yes, at-no, in-bounds}
+use Rattle.record.proofs.Formed.{inside}
+use Rattle.build.proofs.Refusing.Ladder.{if-yes, if-no, at-yes, at-no}
 use borrow.Author.Needs.{needs}
 use Rattle.build.proofs.checks.check_list.Statement.{statement}
 use Rattle.build.proofs.checks.check_list.Tie as tie
@@ -37,7 +38,7 @@ past6 : (c : tie.Else6) → let s = c .before .before .before .before .before .b
 past6 c = past5 (c .before .before) ∙ at-no 5 _ _ (sym (c .before .first-beyond .ensures) ∙ c .if6 .left)
 
 few : (c : tie.Else5) → (1 ≤ length (c .before .before .before .before .before .before .before .before .before .before .args .vectors .now)) × (length (c .before .before .before .before .before .before .before .before .before .before .args .vectors .now) ≤ maxVectors)
-few c = let d = c .before .before .before .before in in-bounds 1 maxVectors _ (sym (d .before .outside2 .ensures) ∙ d .if3 .left)
+few c = let d = c .before .before .before .before in inside 1 maxVectors _ (sym (d .before .outside2 .ensures) ∙ d .if3 .left)
 
 -- the first vector that equals an earlier one
 equal : (c : tie.After-first-repeat) → c .first-repeat .result ≡ repeated (c .before .before .before .before .before .before .before .before .before .before .before .before .before .args .vectors .now)
@@ -48,7 +49,7 @@ past7 c = past6 (c .before .before) ∙ at-no 6 _ _ (sym (equal (c .before)) ∙
 
 -- n is 1 to 64
 inputs : (c : tie.Else5) → (1 ≤ c .before .before .before .before .before .before .before .before .before .before .args .n) × (c .before .before .before .before .before .before .before .before .before .before .args .n ≤ maxInputs)
-inputs c = let d = c .before .before .before .before .before .before .before in in-bounds 1 maxInputs _ (sym (d .before .outside .ensures) ∙ d .if1 .left)
+inputs c = let d = c .before .before .before .before .before .before .before in inside 1 maxInputs _ (sym (d .before .outside .ensures) ∙ d .if1 .left)
 
 returns : tie.Need-returns
 returns c = c .refuse .ensures ∙ sym (if-yes 0 _ _ (sym (c .before .before .outside .ensures) ∙ c .before .if1 .taken))

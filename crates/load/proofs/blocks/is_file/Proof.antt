@@ -9,10 +9,10 @@ use lib.Pow.{shl-exact, pow-mono}
 use borrow.Author.Tests.{not-true, not-false}
 use borrow.Author.Needs.{needs}
 use Rattle.lists.proofs.Entries.Alls.{at-all}
-use Rattle.vectors.specs.Bounds.{maxInputs, maxSide, maxVectors, maxCells}
+use Rattle.vectors.specs.Bounds.{maxInputs, maxSide}
 use Rattle.record.specs.Inner.Formed.{InBounds}
 use Rattle.record.specs.Formed.{rightRecord}
-use Rattle.record.proofs.Formed.{in-bounds}
+use Rattle.record.proofs.Formed.{Numbers, numbers, in-bounds}
 use Rattle.record.proofs.Soundness.{right-says}
 use Rattle.block.specs.Block.{shortWord, longWords}
 use Rattle.file.specs.Layout.{hKind, gKind, auxKind}
@@ -20,7 +20,6 @@ use Rattle.file.specs.File.{blocksFor, rowsIn, wordsIn, hFirst, gFirst, auxFirs
 use Rattle.file.specs.Read.{isFile}
 use Rattle.file.specs.declared.layout.Starts.{Starts}
 use Rattle.load.specs.Inner.Laid.{headLaid, tableLaid, laidBy}
-use Rattle.load.proofs.Checking.{numbers-few}
 use Rattle.load.proofs.Testing.Files.{hLaid, gLaid, auxLaid, laid-no, laid-yes}
 use Rattle.load.proofs.Testing.Steps.{not-right, is-laid}
 use Rattle.load.proofs.blocks.is_file.Statement.{statement}
@@ -35,8 +34,8 @@ module _ (c : tie.Else1) where
   bounds : InBounds (c .before .before .before .args .unit)
   bounds = in-bounds (c .before .before .before .args .unit) (right-says (c .before .before .before .args .unit) is-right .in-bounds)
 
-  few : (c .before .before .before .args .unit .k ≤ maxVectors) × (c .before .before .before .args .unit .cells ≤ maxCells)
-  few = numbers-few (c .before .before .before .args .unit) (right-says (c .before .before .before .args .unit) is-right .in-bounds)
+  few : Numbers (c .before .before .before .args .unit)
+  few = numbers (c .before .before .before .args .unit) (right-says (c .before .before .before .args .unit) is-right .in-bounds)
 
   rows-few : rowsIn (c .before .before .before .args .unit) ≤ 2 ^ maxSide
   rows-few = pow-mono {i = c .before .before .before .args .unit .n1} {j = maxSide} (bounds .rows-few)

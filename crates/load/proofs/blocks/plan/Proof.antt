@@ -6,19 +6,18 @@ use native.Mathlib.Omega.{arith}
 use mathlib.Core.Path.{_≡_, ap₂, _∙_}
 use lib.Pow.{shl-exact, pow-mono}
 use borrow.Author.Needs.{needs}
-use Rattle.vectors.specs.Bounds.{maxInputs, maxSide, maxVectors, maxCells}
+use Rattle.vectors.specs.Bounds.{maxInputs, maxSide}
 use Rattle.record.specs.Inner.Formed.{InBounds}
-use Rattle.record.proofs.Formed.{in-bounds}
+use Rattle.record.proofs.Formed.{Numbers, numbers, in-bounds}
 use Rattle.file.specs.Plan.{planOf}
-use Rattle.load.proofs.Checking.{numbers-few}
 use Rattle.load.proofs.blocks.plan.Statement.{statement}
 use Rattle.load.proofs.blocks.plan.Tie as tie
 
 bounds : (s : tie.Start) → InBounds (s .args .unit)
 bounds s = in-bounds (s .args .unit) (s .pre)
 
-few : (s : tie.Start) → (s .args .unit .k ≤ maxVectors) × (s .args .unit .cells ≤ maxCells)
-few s = numbers-few (s .args .unit) (s .pre)
+few : (s : tie.Start) → Numbers (s .args .unit)
+few s = numbers (s .args .unit) (s .pre)
 
 -- the code's number of rows
 power : (s : tie.Start) → 1 * 2 ^ s .args .unit .n1 % 2 ^ maxInputs ≡ 2 ^ s .args .unit .n1
