@@ -23,7 +23,7 @@ use Rattle.lookup.specs.Lookup.{found, notFound, compared, answer, lookupOf}
 use Rattle.lookup.proofs.Lookups.{answer-out, answer-in, compared-none, compared-above, lookup-beyond, lookup-answer}
 use Rattle.many.specs.declared.find.Frame.{Frame}
 use Rattle.many.specs.Image.{imageOf}
-use Rattle.many.specs.Inner.Images.{FrameOf, Fits, Room, Opened}
+use Rattle.many.specs.Inner.Images.{FrameOf, Room, Opened}
 
 -- ---- the parts of an image
 
