@@ -63,8 +63,7 @@ pub(crate) fn fill(images: &[u64], tables: &mut [u64])
     }
 }
 
-// The image of x, from those of its bytes. The eighth is read only where a key up to the last can have one, which keys of the separation engine have not:
-// the compiler makes a loop of its own for those.
+// The image of x, from those of its bytes. The eighth is read only where a key up to the last can have one, which keys of the separation engine have not.
 pub(crate) fn image(tables: &[u64; WORDS], last: u64, x: u64) -> u64
     requires { ⌜ x ≤ last ⌝ }
     ensures { λ r. ⌜ ((f : ℕ → ℕ) → Linear f → Tabled wordBytes f (now (tables .entry)) → r ≡ f x) ⌝ }
