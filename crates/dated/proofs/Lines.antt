@@ -1,22 +1,19 @@
 -- A line written anew, and the five numbers of a line. Assumes nothing.
-use Prim.Native.Nat.{ℕ, suc, _+_, _-_, _≤_, _<_, min}
+use Prim.Native.Nat.{ℕ, _+_, _≤_, _<_}
 use native.Mathlib.Omega.{arith}
 use mathlib.Core.Path.{_≡_, refl, sym, ap, ap₂, _∙_}
 use mathlib.Core.Bool.{Bool, true, false, false≢true, not, _&&_}
 use mathlib.Core.List.{List, [], _∷_, _++_, map}
-use borrow.Author.Tests.{eq-eqb, ne-eqb, le-leb, lt-leb, leb-true}
+use borrow.Author.Tests.{eq-eqb, ne-eqb, le-leb, lt-leb}
 use lib.Dec.{eqb, leb}
 use native.Mathlib.Numerals.{add-one}
 use lib.ListN.{length, getD, take, drop, set, length-map, length-set, length-drop, List·getD-append}
 use lib.Seq.{getD-drop, take-all, take-suc, take-suc-set}
-use Rattle.lists.specs.Members.{every}
-use Rattle.lists.proofs.Tests.{and-true}
 use Rattle.lists.proofs.Entries.Members.{getD-map}
 use Rattle.input.specs.declared.Input.{Input}
 use Rattle.input.specs.Fields.{fields}
-use Rattle.input.specs.Decimal.{goodField, valueOf}
-use Rattle.input.specs.Input.{maxText, maxListed, body, listed, goodText, inputFrom, numbersIn, inputOf, vectorsOf}
-use Rattle.profiles.specs.declared.Key.{Key}
+use Rattle.input.specs.Decimal.{valueOf}
+use Rattle.input.specs.Input.{body, listed, goodText, inputFrom, numbersIn, inputOf, vectorsOf}
 use Rattle.profiles.specs.declared.Word.{Word}
 use Rattle.profiles.specs.Key.{inWidths, packed, keyOf, wordOf}
 use Rattle.dated.specs.declared.Dated.{Dated}

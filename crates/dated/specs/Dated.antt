@@ -1,9 +1,9 @@
 -- A profile key as it is written: five decimal numbers parted by commas (SCOPE 21.10).
-use Prim.Native.Nat.{ℕ, _-_, min}
+use Prim.Native.Nat.{ℕ, min}
 use mathlib.Core.Bool.{Bool, true, false, cond, not, _&&_}
 use mathlib.Core.List.{List, map}
 use lib.Dec.{eqb, leb}
-use lib.ListN.{length, getD}
+use lib.ListN.{length}
 use Rattle.input.specs.Input.{goodText, listed, numbersIn}
 use Rattle.profiles.specs.declared.Key.{Key}
 use Rattle.profiles.specs.declared.Word.{Word}

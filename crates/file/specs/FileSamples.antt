@@ -4,7 +4,6 @@ use mathlib.Core.Path.{_≡_, refl}
 use mathlib.Core.List.{List, [], _∷_, _++_}
 use lib.ListN.{length, take, drop, replicate}
 use Rattle.record.specs.declared.Record.{Record}
-use Rattle.record.specs.Tables.{Tables}
 use Rattle.build.specs.Build.{Outcome, buildChosen}
 use Rattle.unit.specs.Samples.{S, nines}
 use Rattle.block.specs.Block.{blockSize, checkAt}

@@ -1,22 +1,21 @@
 -- What is printed for any keys fits 96 KiB. Assumes nothing.
-use Prim.Native.Nat.{ℕ, zero, suc, _+_, _*_, _^_, _≤_, _<_}
+use Prim.Native.Nat.{ℕ, zero, suc, _+_, _^_, _≤_, _<_}
 use native.Mathlib.Omega.{arith}
 use mathlib.Core.Path.{_≡_, refl, ap}
-use mathlib.Core.Bool.{Bool, true, false, cond, _&&_}
-use mathlib.Core.List.{List, [], _∷_, _++_, map}
+use mathlib.Core.Bool.{Bool, true, false, cond}
+use mathlib.Core.List.{List, [], _∷_, _++_}
 use borrow.Author.Tests.{leb-true, eqb-true, eqb-false}
 use lib.Dec.{eqb, leb, ltb}
 use lib.ListN.{length, length-map}
 use Rattle.lists.specs.Members.{All, every}
 use Rattle.lists.proofs.Tests.{and-true}
-use Rattle.vectors.specs.Bounds.{maxVectors}
 use Rattle.record.specs.declared.Record.{Record}
 use Rattle.record.specs.Tables.{Tables}
 use Rattle.lookup.specs.Lookup.{lookupOf}
 use Rattle.lookup.proofs.Indices.{found-index, found-number}
 use Rattle.many.specs.declared.Many.{Many}
 use Rattle.many.specs.Lookups.{orElse, firstRefused}
-use Rattle.print.specs.Line.{newline, ends, beside}
+use Rattle.print.specs.Line.{newline}
 use Rattle.print.specs.Print.{maxBytes}
 use Rattle.print.proofs.Pages.Sizes.{refused-low}
 use Rattle.print.proofs.Pages.Lengths.{lineEnds, beside-low}

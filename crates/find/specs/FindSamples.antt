@@ -1,12 +1,11 @@
 -- Keys looked up in the unit that is built for the list S, computed (SCOPE 15.3, 15.5); keys that are too wide, and words that are no keys.
 use Prim.Native.Nat.{ℕ}
 use mathlib.Core.Path.{_≡_, refl}
-use mathlib.Core.Bool.{true, false}
+use mathlib.Core.Bool.{true}
 use mathlib.Core.List.{List}
 use Rattle.build.specs.Build.{Outcome, buildChosen}
 use Rattle.unit.specs.Samples.{S, nines}
 use Rattle.print.specs.Ascii.{ascii}
-use Rattle.find.specs.declared.keys.Key.{Key}
 use Rattle.find.specs.Keys.{noKey, keyOf}
 use Rattle.find.specs.Find.{inputText, findText}
 

@@ -1,7 +1,7 @@
 -- Degree and cells read from the words. Assumes nothing.
 use Prim.Native.Nat.{ℕ, _+_, _-_, _≤_, _<_}
 use native.Mathlib.Omega.{arith}
-use mathlib.Core.Path.{_≡_, refl, sym, ap, _∙_}
+use mathlib.Core.Path.{_≡_, sym, ap, _∙_}
 use mathlib.Core.Bool.{true, false}
 use mathlib.Core.List.{List, [], _∷_, _++_, append-nil}
 use borrow.Author.Tests.{eq-eqb, ne-eqb, le-leb, lt-leb}
@@ -13,7 +13,6 @@ use Rattle.print.proofs.Pages.Fitting.{fitted-long}
 use Rattle.print.specs.Line.{newline}
 use Rattle.input.specs.declared.Input.{Input}
 use Rattle.input.specs.Input.{inputOf}
-use Rattle.keys.specs.declared.Asked.{Asked}
 use Rattle.keys.specs.Keys.{maxAsked, askedAs, askedOf}
 
 -- ---- the words behind a number 0

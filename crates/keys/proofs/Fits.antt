@@ -1,17 +1,15 @@
 -- Everything written fits 64 KiB. Assumes nothing.
 use Prim.Native.Nat.{ℕ, _≤_}
 use native.Mathlib.Omega.{arith}
-use mathlib.Core.Path.{_≡_, refl, sym, ap, _∙_}
+use mathlib.Core.Path.{_≡_, refl, ap}
 use mathlib.Core.Bool.{Bool, true, false}
 use mathlib.Core.List.{List, map}
 use lib.Dec.{leb}
 use lib.ListN.{length}
 use Rattle.lists.specs.Members.{every}
-use Rattle.print.specs.Print.{refusedText}
 use Rattle.print.proofs.Pages.Sizes.{refused-low}
 use Rattle.input.specs.Input.{maxText}
 use Rattle.answer.specs.Make.{roomy, programAllowance}
-use Rattle.answer.specs.Answer.{inputText}
 use Rattle.pack.specs.Pack.{pageSize, packed}
 use Rattle.pack.proofs.Fits.{built-low}
 use Rattle.profiles.specs.declared.Key.{Key}

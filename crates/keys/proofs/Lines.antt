@@ -6,11 +6,10 @@ use mathlib.Core.Path.{_≡_, refl, sym, ap, ap₂, _∙_}
 use mathlib.Core.Bool.{Bool, true, false, false≢true, not, _&&_, _||_}
 use mathlib.Core.List.{List, [], _∷_, _++_, append-nil, append-assoc, map}
 use borrow.Author.Tests.{ne-eqb, le-leb, lt-leb}
-use lib.Dec.{eqb, leb}
+use lib.Dec.{eqb}
 use lib.ListN.{length, take, drop, set, length-append, length-drop, length-set, drop-of-length-le}
 use lib.Seq.{drop-drop, take-all, take-suc-set}
 use Rattle.lists.specs.Members.{every}
-use Rattle.lists.proofs.Tests.{and-true}
 use Rattle.print.specs.Line.{newline}
 use Rattle.input.specs.Input.{maxListed}
 use Rattle.find.specs.Keys.{lineLength}

@@ -10,7 +10,7 @@ use lib.ListN.{length, take, drop, length-drop}
 use lib.Seq.{take-all}
 use Rattle.lists.specs.Members.{every}
 use Rattle.lists.proofs.Tests.{and-true}
-use Rattle.record.specs.Tables.{Tables, lent}
+use Rattle.record.specs.Tables.{lent}
 use Rattle.build.specs.declared.Built.{Built}
 use Rattle.build.specs.Build.{Outcome, after, buildChosen}
 use Rattle.build.proofs.Holding.Holds.{chosen-holds}
@@ -21,7 +21,6 @@ use Rattle.answer.specs.Make.{roomy, programAllowance}
 use Rattle.answer.specs.Answer.{inputText}
 use Rattle.pack.specs.Pack.{packBuilt, packed}
 use Rattle.pack.proofs.Packs.{built-packed}
-use Rattle.profiles.specs.declared.Key.{Key}
 use Rattle.profiles.specs.Key as key
 use Rattle.profiles.specs.Key.{keyBits, inWidths}
 use Rattle.profiles.specs.Keys.{buildKeys}

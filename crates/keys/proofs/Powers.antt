@@ -1,5 +1,5 @@
 -- The least power of two, doubled until it is enough. Assumes nothing.
-use Prim.Native.Nat.{ℕ, zero, suc, _+_, _*_, _^_, _≤_, _<_}
+use Prim.Native.Nat.{ℕ, zero, suc, _*_, _^_, _≤_, _<_}
 use native.Mathlib.Omega.{arith}
 use native.Mathlib.Nat.{mul-assoc, mul-comm, le-trans, le-of-eq, le-mul-of-pos-right, pow-succ'}
 use lib.Pow.{pow-pos}

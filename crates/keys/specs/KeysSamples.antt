@@ -1,7 +1,6 @@
 -- Texts of profile keys: their lines, how many cells they get, and texts that are none, computed.
-use Prim.Native.Nat.{ℕ}
 use mathlib.Core.Path.{_≡_, refl}
-use mathlib.Core.List.{List, [], _∷_}
+use mathlib.Core.List.{[], _∷_}
 use Rattle.print.specs.Ascii.{ascii}
 use Rattle.answer.specs.Answer.{inputText}
 use Rattle.build.specs.Build.{buildChosen}

@@ -1,5 +1,5 @@
 -- What is promised of profiles, of units that sure builds left: those of the chosen build, and those carried by file. Assumes nothing.
-use Prim.Native.Nat.{ℕ, zero, suc, _+_, _-_, _*_, _≤_, _<_}
+use Prim.Native.Nat.{ℕ, zero, suc, _-_, _*_, _≤_, _<_}
 use native.Mathlib.Nat.{suc-mul}
 use native.Mathlib.Omega.{arith}
 use mathlib.Core.Path.{_≡_, refl, sym, ap, _∙_}
@@ -25,7 +25,7 @@ use Rattle.profiles.specs.declared.Held.{Held}
 use Rattle.profiles.specs.Key.{inWidths, packed}
 use Rattle.profiles.specs.Place.{slabOf, held, refused, brandElse, chosenFrom}
 use Rattle.profiles.specs.View.{of, PartOf, Within, Views}
-use Rattle.profiles.specs.Facts.{Sure, Slabs, BothBuilt, placeIn, Returned, RecordAt, NothingAt, DayApart, Promised, PromisedOf}
+use Rattle.profiles.specs.Facts.{Sure, Slabs, BothBuilt, placeIn, RecordAt, NothingAt, DayApart, Promised, PromisedOf}
 use Rattle.profiles.proofs.Placing.{place-wide, place-looked, place-within}
 use Rattle.profiles.proofs.Known.{chosen-distinct, own-widths, knows, knows-own, knows-none, knows-entry}
 

@@ -1,7 +1,7 @@
 -- Everything written fits the page, so that a target of a page gets it whole. Assumes nothing.
-use Prim.Native.Nat.{ℕ, _-_, _^_, _≤_, _<_}
+use Prim.Native.Nat.{ℕ, _-_, _≤_}
 use native.Mathlib.Omega.{arith}
-use mathlib.Core.Path.{_≡_, refl, sym, ap, _∙_}
+use mathlib.Core.Path.{_≡_, refl, ap}
 use mathlib.Core.Bool.{Bool, true, false}
 use mathlib.Core.List.{List}
 use borrow.Author.Tests.{eqb-true, eqb-false}
@@ -22,7 +22,7 @@ use Rattle.amend.proofs.Fits.{amend-fits}
 use Rattle.why.proofs.Fits.{why-fits}
 use Rattle.keys.proofs.Fits.{keys-fits}
 use Rattle.input.specs.Opens.{opens}
-use Rattle.words.specs.Words.{pageSize, says, packWord, whyWord, cellsWord, keysWord, showWord, listWord, findWord, addWord, asksFile, printedOf, ofUnit, ofReading, ofFile, wordsOf}
+use Rattle.words.specs.Words.{pageSize, says, packWord, whyWord, cellsWord, keysWord, showWord, listWord, findWord, addWord, asksFile, printedOf, ofUnit, ofFile, wordsOf}
 use Rattle.words.proofs.Writing.{file-refused, file-read, words-none, words-pack, words-why, words-cells, words-keys, words-file, words-other}
 use Rattle.cells.proofs.Fits.{cells-fits}
 

@@ -11,7 +11,7 @@ use Rattle.record.specs.declared.Record.{Record}
 use Rattle.record.specs.Tables.{Tables}
 use Rattle.record.specs.Formed.{wellFormed}
 use Rattle.record.proofs.Soundness.{sound-says}
-use Rattle.print.specs.Print.{Printed, fitted, textOf, printOf, refusedText}
+use Rattle.print.specs.Print.{fitted, printOf, refusedText}
 use Rattle.print.proofs.Pages.Fitting.{print-formed}
 use Rattle.file.specs.Read.{Reading, readOf}
 use Rattle.file.proofs.Loading.Loaded.{read-loaded}

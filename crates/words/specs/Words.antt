@@ -1,7 +1,7 @@
 -- The program with words: what it writes for the words of its call and what it reads. Each word is a line (SCOPE 14.14 to 14.18).
 use Prim.Native.Nat.{ℕ}
 use mathlib.Core.Bool.{Bool, true, false, _&&_, _||_}
-use mathlib.Core.List.{List, [], _∷_}
+use mathlib.Core.List.{List}
 use lib.Dec.{eqb}
 use lib.ListN.{length, drop}
 use Rattle.record.specs.declared.Record.{Record}

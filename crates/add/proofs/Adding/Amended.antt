@@ -1,5 +1,5 @@
 -- A unit amended by one vector: when it is sound, and when it holds the list with the vector at its end. Assumes nothing.
-use Prim.Native.Nat.{ℕ, suc, _+_, _^_, _<_}
+use Prim.Native.Nat.{ℕ, suc, _^_, _<_}
 use native.Mathlib.Omega.{arith}
 use mathlib.Core.Path.{_≡_, ap, _∙_}
 use mathlib.Core.Bool.{true, not, _&&_}

@@ -1,15 +1,14 @@
 -- What alters the check: another byte in one place, two unequal bytes exchanged. Assumes nothing.
 use mathlib.Core.Path.{_≡_, refl, sym, ap, _∙_}
 use mathlib.Core.Bool.{Bool, true, false}
-use mathlib.Core.List.{List, [], _∷_, _++_, append-nil}
-use Prim.Native.Nat.{ℕ, zero, suc, _+_, _-_, _*_, _/_, _%_, _≤_, _<_}
+use mathlib.Core.List.{List, [], _++_, append-nil}
+use Prim.Native.Nat.{ℕ, _+_, _-_, _*_, _/_, _%_, _≤_, _<_}
 use native.Mathlib.Nat.{add-mul, mul-add}
 use native.Mathlib.Omega.{arith}
 use lib.Dec.{ltb}
 use lib.ListN.{length, drop, getD, set, length-set}
 use lib.Seq.{getD-set-other}
 use borrow.Author.Tests.{ltb-true, ltb-false}
-use Rattle.lists.specs.Members.{All}
 use Rattle.lists.proofs.Entries.Alls.{all-at}
 use Rattle.block.specs.Bytes.{littleOf}
 use Rattle.block.specs.Block.{checkAt, modulus, sumOf, weigh, checkOf, exchanged, Guards}

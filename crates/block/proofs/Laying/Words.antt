@@ -7,7 +7,7 @@ use native.Mathlib.Nat.{mul-le-mul-left}
 use native.Mathlib.Omega.{arith}
 use lib.Dec.{eqb}
 use lib.ListN.{length, getD, take, drop, replicate, length-append, length-replicate, length-take, drop-of-length-le}
-use lib.Seq.{sets, sets-eq, length-sets, length-take-le, take-at, drop-at, take-append-add, drop-append-add, take-take}
+use lib.Seq.{sets, sets-eq, length-sets, length-take-le, take-at, take-append-add, drop-append-add}
 use borrow.Author.Tests.{eq-eqb, ne-eqb}
 use Rattle.lists.proofs.Entries.Members.{take-more}
 use Rattle.lists.proofs.Entries.Parts.{take-least}

@@ -1,5 +1,5 @@
 -- Builds with other numbers of cells, and with an allowance of tries: more cells refuse nothing that fewer accept, and `needed` is the least that places the row. Assumes nothing.
-use Prim.Native.Nat.{ℕ, _+_, _^_, _<_}
+use Prim.Native.Nat.{ℕ, _^_, _<_}
 use native.Mathlib.Omega.{arith}
 use mathlib.Core.Path.{_≡_, refl, sym, ap, _∙_}
 use mathlib.Core.Bool.{false, true≢false}

@@ -1,6 +1,5 @@
 -- `dated::exchange` meets its contract. Assumes nothing.
 use borrow.Author.Tests.{eq-eqb, ne-eqb}
-use borrow.Author.Needs.{needs}
 use Rattle.dated.proofs.exchange.Statement.{statement}
 use Rattle.dated.proofs.exchange.Tie as tie
 

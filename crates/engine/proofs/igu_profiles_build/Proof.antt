@@ -1,5 +1,4 @@
 -- `engine::igu_profiles_build` meets its contract. Assumes nothing.
-use native.Mathlib.Omega.{arith}
 use mathlib.Core.Path.{_∙_}
 use Rattle.bridge.proofs.Answers.{answer-fits, left-is}
 use Rattle.engine.proofs.Answers.{keys-place, keys-needed, keys-left}

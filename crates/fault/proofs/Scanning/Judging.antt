@@ -1,5 +1,5 @@
 -- What may follow where a text was read to, byte by byte. Assumes nothing.
-use Prim.Native.Nat.{ℕ, zero, suc, _+_, _-_, _≤_, _<_}
+use Prim.Native.Nat.{ℕ, zero, suc, _+_, _≤_, _<_}
 use native.Mathlib.Omega.{arith}
 use mathlib.Core.Path.{_≡_, refl, sym, ap, _∙_}
 use mathlib.Core.Bool.{Bool, true, false, cond, _&&_, true≢false}
@@ -9,7 +9,7 @@ use lib.Dec.{eqb, leb, ltb}
 use lib.ListN.{length}
 use Rattle.lists.specs.Members.{every}
 use Rattle.lists.proofs.Tests.{and-true, or-false}
-use Rattle.input.specs.Fields.{separator, fields}
+use Rattle.input.specs.Fields.{separator}
 use Rattle.input.specs.Decimal.{maxNumber, digit, valueFrom, valueOf, goodField}
 use Rattle.input.specs.Input.{maxText}
 use Rattle.input.proofs.Decimals.Digits.{value-grows}

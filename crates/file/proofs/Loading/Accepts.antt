@@ -1,8 +1,8 @@
 -- Reading accepts the files that writing gives, and no others. Assumes nothing.
-use mathlib.Core.Path.{_≡_, refl, sym, ap, ap₂, _∙_}
-use mathlib.Core.Bool.{Bool, true, false, not, _&&_, _||_}
+use mathlib.Core.Path.{_≡_, refl, sym, ap, _∙_}
+use mathlib.Core.Bool.{Bool, true, false}
 use mathlib.Core.List.{List}
-use Prim.Native.Nat.{ℕ, _+_, _*_, _/_, _%_}
+use Prim.Native.Nat.{ℕ, _*_, _/_, _%_}
 use native.Mathlib.Omega.{arith}
 use lib.Dec.{eqb}
 use lib.ListN.{length}
@@ -13,10 +13,10 @@ use Rattle.record.specs.Record.{recordOf}
 use Rattle.record.specs.Tables.{Tables}
 use Rattle.record.specs.Formed.{sound, longEnough}
 use Rattle.block.specs.Block.{blockSize, same}
-use Rattle.file.specs.File.{blocksIn, sizeOf, fileOf}
+use Rattle.file.specs.File.{blocksIn, fileOf}
 use Rattle.file.specs.Decode.{recordIn, tablesIn}
-use Rattle.file.specs.Read.{Reading, noBlocks, rightChecks, isFile, refusedRead, loadedRead, readUnit, readOf}
-use Rattle.file.specs.Facts.{carriedRecord, Written, AcceptsFiles}
+use Rattle.file.specs.Read.{Reading, noBlocks, rightChecks, isFile, refusedRead, loadedRead, readOf}
+use Rattle.file.specs.Facts.{AcceptsFiles}
 use Rattle.file.proofs.Outcomes.{file-length}
 use Rattle.file.proofs.Decoding.Units.{record-read}
 use Rattle.file.proofs.Decoding.Again.{file-reads-back}

@@ -1,7 +1,7 @@
 -- What was read, written again, is the same bytes. Assumes nothing.
 use mathlib.Core.Path.{_≡_, refl, sym, ap, _∙_}
 use mathlib.Core.Bool.{true}
-use mathlib.Core.List.{List, _++_}
+use mathlib.Core.List.{List}
 use Prim.Native.Nat.{ℕ, zero, suc, _+_, _-_, _*_, _≤_, min}
 use native.Mathlib.Omega.{arith}
 use lib.ListN.{length, take, drop, length-append}
@@ -12,7 +12,7 @@ use Rattle.record.specs.Tables.{Tables, over}
 use Rattle.record.specs.Formed.{longEnough}
 use Rattle.block.specs.Bytes.{wordsAt}
 use Rattle.block.specs.Block.{blockSize, payloadAt, shortWord, longWord, shortWords, longWords}
-use Rattle.file.specs.File.{blocksFor, rowsIn, wordsIn, hFirst, gFirst, auxFirst, fileWith, fileOf}
+use Rattle.file.specs.File.{blocksFor, rowsIn, wordsIn, hFirst, gFirst, auxFirst, fileOf}
 use Rattle.file.specs.Decode.{tableFrom, tableIn, recordIn, tablesIn}
 use Rattle.file.specs.Read.{Reading, loadedRead, readOf}
 use Rattle.file.specs.Facts.{WritesAgain}

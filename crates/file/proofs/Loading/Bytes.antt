@@ -1,5 +1,5 @@
 -- A file is made of bytes. Assumes nothing.
-use mathlib.Core.Path.{_≡_, refl, sym, ap, _∙_}
+use mathlib.Core.Path.{_≡_}
 use mathlib.Core.Bool.{true, false}
 use mathlib.Core.List.{List, [], _∷_, _++_}
 use Prim.Native.Nat.{ℕ, zero, suc, _+_, _-_, _*_, _%_, _≤_, _<_}
@@ -7,7 +7,6 @@ use native.Mathlib.Omega.{arith}
 use lib.ListN.{length, take, drop, replicate}
 use Rattle.lists.specs.Members.{All}
 use Rattle.lists.proofs.Entries.Joined.{all-append}
-use Rattle.lists.proofs.Entries.Members.{all-map}
 use Rattle.vectors.specs.declared.Kind.{Kind}
 use Rattle.vectors.specs.declared.Kind.the-variants.{One, Two}
 use Rattle.vectors.specs.Bounds.{maxInputs, maxVariables}
@@ -22,7 +21,7 @@ use Rattle.record.proofs.Soundness.{sound-says}
 use Rattle.block.specs.Bytes.{littleOf, wordsOf}
 use Rattle.block.specs.Block.{checkAt, modulus, sumOf, weigh, openingOf, padded, checkOf, blockOf, shortWord, longWord, shortWords, longWords}
 use Rattle.block.proofs.Reading.Numbers.{Bytes, little-bytes}
-use Rattle.file.specs.Layout.{headKind, hKind, gKind, auxKind, version, letters}
+use Rattle.file.specs.Layout.{headKind, hKind, gKind, auxKind, letters}
 use Rattle.file.specs.File.{opening, variableBytes, variablesBytes, headPayload, headOf, blocksFor, stack, tableBlock, tableOf, rowsIn, wordsIn, hFirst, gFirst, auxFirst, fileWith, fileOf}
 
 join : (a b : List ℕ) → Bytes a → Bytes b → Bytes (a ++ b)

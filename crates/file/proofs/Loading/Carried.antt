@@ -1,21 +1,19 @@
 -- A unit that was written and read is the unit that was written. Assumes nothing.
-use mathlib.Core.Path.{_≡_, refl, sym, ap, _∙_}
-use mathlib.Core.Bool.{true, _&&_}
+use mathlib.Core.Path.{_≡_, refl, _∙_}
+use mathlib.Core.Bool.{true}
 use mathlib.Core.List.{List}
-use Prim.Native.Nat.{ℕ, suc, _+_, _≤_, _<_}
+use Prim.Native.Nat.{ℕ}
 use native.Mathlib.Omega.{arith}
-use lib.ListN.{length, take, drop, length-append, length-drop}
+use lib.ListN.{length}
 use borrow.Author.Tests.{le-leb, lt-ltb}
 use Rattle.record.specs.declared.Record.{Record}
-use Rattle.record.specs.Record.{recordOf}
-use Rattle.record.specs.Tables.{Tables, over}
+use Rattle.record.specs.Tables.{Tables}
 use Rattle.record.specs.Formed.{sound, longEnough}
-use Rattle.file.specs.File.{rowsIn, wordsIn, fileOf}
+use Rattle.file.specs.File.{rowsIn, fileOf}
 use Rattle.file.specs.Decode.{recordIn, tablesIn}
-use Rattle.file.specs.Read.{Reading, loadedRead, readOf}
-use Rattle.file.specs.Facts.{WordsFit, SameRecord, SameUnit, SameAnswers, carriedRecord, AnswersAlike, Roomy}
+use Rattle.file.specs.Read.{loadedRead, readOf}
+use Rattle.file.specs.Facts.{SameRecord, SameUnit, SameAnswers, AnswersAlike, Roomy}
 use Rattle.file.proofs.Outcomes.{Ranges, ranges}
-use Rattle.file.proofs.Decoding.Units.{record-read}
 use Rattle.file.proofs.Decoding.Again.{file-reads-back, sound-same}
 use Rattle.file.proofs.Decoding.Answers.{same-answers, carried-answers}
 use Rattle.file.proofs.Loading.Accepts.{passed-read, written-passed}

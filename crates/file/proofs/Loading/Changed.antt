@@ -5,11 +5,11 @@ use mathlib.Core.List.{List}
 use mathlib.Core.Logic.{⊎-elim}
 use Prim.Native.Nat.{ℕ, _+_, _-_, _*_, _/_, _%_, _≤_, _<_}
 use native.Mathlib.Omega.{arith}
-use lib.ListN.{length, take, drop, getD, set, length-set, length-drop}
+use lib.ListN.{length, take, drop, getD, set, length-drop}
 use lib.Seq.{length-take-le, take-set-lt, take-set-le, drop-set-lt, drop-set-add, getD-set-same, getD-take, getD-drop}
 use Rattle.lists.proofs.Tests.{le-or-lt}
 use Rattle.lists.proofs.Entries.Alls.{all-take, all-drop}
-use Rattle.block.specs.Block.{blockSize, checkAt, checkOf, rightCheck, Guards}
+use Rattle.block.specs.Block.{blockSize, checkAt, checkOf, rightCheck}
 use Rattle.block.proofs.Check.Guarding.{check-guards}
 use Rattle.block.proofs.Reading.Numbers.{Bytes}
 use Rattle.file.specs.Read.{rightChecks}

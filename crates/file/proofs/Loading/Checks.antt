@@ -1,6 +1,6 @@
 -- Every block of a file ends in its check. Assumes nothing.
 use mathlib.Core.Path.{_≡_, refl, sym, ap, ap₂, _∙_}
-use mathlib.Core.Bool.{Bool, true, false, _&&_}
+use mathlib.Core.Bool.{Bool, true, _&&_}
 use mathlib.Core.List.{List, [], _∷_, _++_}
 use Prim.Native.Nat.{ℕ, zero, suc, _+_, _-_, _*_, _≤_, _<_}
 use native.Mathlib.Nat.{mul-le-mul-left}
@@ -10,9 +10,7 @@ use lib.ListN.{length, take, drop, length-append, length-take, length-drop}
 use lib.Seq.{take-append-le, drop-append-le, take-all, drop-drop}
 use borrow.Author.Tests.{eqb-true, eq-eqb}
 use Rattle.lists.proofs.Tests.{and-true, and-assoc}
-use Rattle.vectors.specs.Bounds.{maxVariables}
 use Rattle.record.specs.declared.Record.{Record}
-use Rattle.record.specs.Record.{kindsIn}
 use Rattle.record.specs.Tables.{Tables}
 use Rattle.record.specs.Formed.{sound}
 use Rattle.block.specs.declared.Opening.{Opening}
@@ -21,10 +19,10 @@ use Rattle.block.specs.Bytes.{wordsOf}
 use Rattle.block.proofs.Laying.Words.{length-words}
 use Rattle.block.proofs.Reading.Blocks.{block-check}
 use Rattle.file.specs.Layout.{headKind, hKind, gKind, auxKind}
-use Rattle.file.specs.File.{opening, headPayload, headOf, blocksFor, stack, tableBlock, tableOf, rowsIn, wordsIn, hFirst, gFirst, auxFirst, blocksIn, sizeOf, fileWith, fileOf}
+use Rattle.file.specs.File.{opening, headPayload, headOf, blocksFor, stack, tableBlock, tableOf, rowsIn, wordsIn, hFirst, gFirst, auxFirst, blocksIn, fileWith, fileOf}
 use Rattle.file.specs.Read.{rightChecks}
 use Rattle.file.proofs.Laying.Stacks.{length-table-block, length-stack}
-use Rattle.file.proofs.Laying.Files.{Whole, length-payload, length-head, length-table}
+use Rattle.file.proofs.Laying.Files.{length-payload, length-head, length-table}
 use Rattle.file.proofs.Outcomes.{whole}
 
 -- ---- the same bytes

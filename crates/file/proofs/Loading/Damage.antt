@@ -1,11 +1,11 @@
 -- A file with one changed byte is refused as 22, and a file cut short is refused. Assumes nothing.
 use mathlib.Core.Path.{_≡_, refl, sym, ap, _∙_}
-use mathlib.Core.Bool.{Bool, true, false, not, _||_}
+use mathlib.Core.Bool.{Bool, true, false, not}
 use mathlib.Core.List.{List}
 use Prim.Native.Nat.{ℕ, _+_, _*_, _/_, _%_, _≤_, _<_}
 use native.Mathlib.Omega.{arith}
 use lib.Dec.{eqb}
-use lib.ListN.{length, take, drop, getD, set, length-set}
+use lib.ListN.{length, take, getD, set, length-set}
 use lib.Seq.{length-take-le}
 use borrow.Author.Tests.{eqb-true, eqb-false}
 use Rattle.lists.proofs.Tests.{or-false}
@@ -13,13 +13,13 @@ use Rattle.lists.proofs.Entries.Parts.{part-take}
 use Rattle.record.specs.declared.Record.{Record}
 use Rattle.record.specs.Record.{recordOf}
 use Rattle.record.specs.Tables.{Tables}
-use Rattle.record.specs.Formed.{sound, longEnough}
+use Rattle.record.specs.Formed.{sound}
 use Rattle.block.specs.Bytes.{valueOf, numberAt}
 use Rattle.block.specs.Block.{blockSize}
 use Rattle.file.specs.Layout.{n1At, kAt, cellsAt}
 use Rattle.file.specs.File.{blocksIn, sizeOf, fileOf}
 use Rattle.file.specs.Decode.{recordIn, tablesIn}
-use Rattle.file.specs.Read.{Reading, noBlocks, rightChecks, isFile, refusedRead, readOf}
+use Rattle.file.specs.Read.{Reading, noBlocks, rightChecks, refusedRead, readOf}
 use Rattle.file.specs.Facts.{carriedRecord, SeesDamage}
 use Rattle.file.proofs.Outcomes.{file-length}
 use Rattle.file.proofs.Decoding.Units.{record-read}

@@ -1,11 +1,10 @@
 -- A unit that was read is sound, and its words are words of 16 and 64 bits. Assumes nothing.
-use mathlib.Core.Path.{_≡_, refl, sym, ap, _∙_}
+use mathlib.Core.Path.{_≡_, sym, ap, _∙_}
 use mathlib.Core.Bool.{Bool, true, false}
 use mathlib.Core.List.{List, [], _∷_, map}
 use Prim.Native.Nat.{ℕ, _/_, _%_, _^_, _≤_, _<_}
 use native.Mathlib.Omega.{arith}
 use native.Mathlib.Nat.{mod-lt}
-use lib.IntN.{ℤ}
 use lib.ListN.{length, take}
 use mir.Syntax.{w64}
 use mir.Val.{SFits}
@@ -19,7 +18,7 @@ use Rattle.block.specs.Block.{blockSize}
 use Rattle.record.proofs.Excesses.{excess-fits}
 use Rattle.file.specs.File.{rowsIn, wordsIn, fileOf}
 use Rattle.file.specs.Decode.{recordIn, tablesIn}
-use Rattle.file.specs.Read.{Reading, noBlocks, rightChecks, isFile, loadedRead, readOf}
+use Rattle.file.specs.Read.{noBlocks, rightChecks, isFile, loadedRead, readOf}
 use Rattle.file.specs.Facts.{WordsFit, carriedRecord, carriedTables}
 use Rattle.file.proofs.Outcomes.{ranges}
 use Rattle.file.proofs.Decoding.Units.{record-read, tables-read}

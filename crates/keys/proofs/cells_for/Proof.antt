@@ -3,7 +3,6 @@ use Prim.Native.Nat.{_-_, _^_}
 use native.Mathlib.Omega.{arith}
 use Rattle.keys.specs.Keys.{doublings}
 use Rattle.keys.proofs.Powers.{Doubling, doubling-none, doubling-more, doubling-end}
-use borrow.Author.Needs.{needs}
 use Rattle.keys.proofs.cells_for.Statement.{statement}
 use Rattle.keys.proofs.cells_for.Tie as tie
 

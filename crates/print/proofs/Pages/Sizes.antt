@@ -9,7 +9,7 @@ use mir.Syntax.{w64}
 use mir.Val.{SFits}
 use Rattle.lists.specs.Members.{All}
 use Rattle.lists.proofs.Entries.Members.{all-map}
-use Rattle.print.specs.Decimal.{decimal, signed}
+use Rattle.print.specs.Decimal.{decimal}
 use Rattle.print.specs.Line.{newline, fields, line, lines}
 use Rattle.print.specs.Print.{refusedName, pageOf, refusedText}
 use Rattle.print.proofs.Decimals.Digits.{length-below, length-half, length-word}

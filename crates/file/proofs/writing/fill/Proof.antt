@@ -1,13 +1,13 @@
 -- `file::writing::fill` meets its contract. Assumes nothing.
 use Prim.Native.Nat.{_≤_}
 use native.Mathlib.Omega.{arith}
-use mathlib.Core.Path.{_≡_, sym, ap, _∙_}
+use mathlib.Core.Path.{sym, ap, _∙_}
 use lib.ListN.{length, length-map}
 use borrow.Author.Needs.{needs}
 use Rattle.vectors.specs.Bounds.{maxVariables}
 use Rattle.vectors.proofs.Variables.Numbers.{kinds-many}
 use Rattle.record.specs.Record.{kindsIn}
-use Rattle.file.proofs.Laying.Files.{Whole, length-head, filled-is}
+use Rattle.file.proofs.Laying.Files.{length-head, filled-is}
 use Rattle.file.proofs.writing.fill.Statement.{statement}
 use Rattle.file.proofs.writing.fill.Tie as tie
 

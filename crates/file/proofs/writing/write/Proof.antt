@@ -1,5 +1,5 @@
 -- `file::writing::write` meets its contract. Assumes nothing.
-use Prim.Native.Nat.{ℕ, _*_, _%_, _^_, _≤_}
+use Prim.Native.Nat.{ℕ, _*_, _%_, _^_}
 use native.Mathlib.Nat.{one-mul}
 use native.Mathlib.Numerals.{add-one}
 use native.Mathlib.Omega.{arith}

@@ -1,5 +1,4 @@
 -- `profiles::keys::in_widths` meets its contract. Assumes nothing.
-use mathlib.Core.Path.{sym}
 use borrow.Author.Tests.{lt-ltb, le-ltb}
 use Rattle.profiles.specs.Key.{inWidths}
 use Rattle.profiles.proofs.keys.in_widths.Statement.{statement}

@@ -1,7 +1,6 @@
 -- `profiles::keys::pack` meets its contract. Assumes nothing.
 use borrow.Author.Needs.{needs}
 use native.Mathlib.Omega.{arith}
-use Rattle.profiles.specs.declared.Key.{Key}
 use Rattle.profiles.specs.Key.{packed}
 use Rattle.profiles.proofs.Packing.{widths}
 use Rattle.profiles.proofs.keys.pack.Statement.{statement}

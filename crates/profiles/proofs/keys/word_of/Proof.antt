@@ -3,7 +3,7 @@ use Prim.Native.Nat.{ℕ}
 use mathlib.Core.Path.{_≡_, sym, ap, _∙_}
 use mathlib.Core.Bool.{true}
 use borrow.Author.Tests.{not-true, not-false}
-use Rattle.profiles.specs.Key.{inWidths, packed, wordOf}
+use Rattle.profiles.specs.Key.{inWidths, wordOf}
 use borrow.Author.Needs.{needs}
 use Rattle.profiles.proofs.keys.word_of.Statement.{statement}
 use Rattle.profiles.proofs.keys.word_of.Tie as tie

@@ -3,7 +3,6 @@ use mathlib.Core.Path.{_≡_, sym, ap, _∙_}
 use mathlib.Core.Bool.{true, false}
 use Prim.Native.Nat.{ℕ}
 use borrow.Author.Tests.{not-true, not-false}
-use Rattle.profiles.specs.declared.Asked.{Asked}
 use Rattle.profiles.specs.Key.{inWidths}
 use Rattle.profiles.specs.Place.{tooShort}
 use Rattle.profiles.proofs.Placing.{asked-wide, asked-short, asked-word}
