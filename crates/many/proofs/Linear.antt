@@ -122,28 +122,23 @@ module _ (f : ℕ → ℕ) (l : Linear f) where
           ap (λ (i : ℕ). getD new i 0) (sym k) ∙ d (m - 2 ^ b) r .1 ∙ ap₂ bitXor (s (m - 2 ^ b) r) e in
           a ∙ ap (λ (i : ℕ). bitXor (f (m - 2 ^ b)) (f i)) (sym (one-mul (2 ^ b))) ∙ sym (linear-sum b 1 (m - 2 ^ b) r) ∙ ap f q
 
-  -- the value at a word is the XOR of those at its bytes: at the lower seven, and at the eighth
-  module _ (T : List ℕ) (x : ℕ) (s : Tabled 8 f T) where
-    with-byte : (t y : ℕ) → t < 8 → y ≡ f (x % 2 ^ (8 * t)) → bitXor y (getD T (256 * t + x / 2 ^ (8 * t) % 256) 0) ≡ f (x % 2 ^ (8 + 8 * t))
-    with-byte t y g e = ap₂ bitXor e (s t (x / 2 ^ (8 * t) % 256) g (mod-lt (x / 2 ^ (8 * t)) (pow-pos 8))) ∙ sym (more x 8 (8 * t))
+  -- the value at a word is the XOR of those at its bytes
+  pub image-bytes : (T : List ℕ) (x : ℕ) → x < 2 ^ 64 → Tabled 8 f T
+      → bitXor (bitXor (bitXor (bitXor (bitXor (bitXor (bitXor (getD T (x % 256) 0) (getD T (256 + x / 2 ^ 8 % 256) 0)) (getD T (512 + x / 2 ^ 16 % 256) 0))
+      (getD T (768 + x / 2 ^ 24 % 256) 0)) (getD T (1024 + x / 2 ^ 32 % 256) 0)) (getD T (1280 + x / 2 ^ 40 % 256) 0)) (getD T (1536 + x / 2 ^ 48 % 256) 0))
+      (getD T (1792 + x / 2 ^ 56 % 256) 0)
+      ≡ f x
+  image-bytes T x h s =
+      with-byte 7 _ (lit< tt) (with-byte 6 _ (lit< tt) (with-byte 5 _ (lit< tt) (with-byte 4 _ (lit< tt) (with-byte 3 _ (lit< tt)
+      (with-byte 2 _ (lit< tt) (with-byte 1 _ (lit< tt) start))))))
+      ∙ ap f (mod-eq-of-lt h)
+    where
+      start : getD T (x % 256) 0 ≡ f (x % 256)
+      start = ap (λ (i : ℕ). getD T i 0) (sym (zero-add (x % 256))) ∙ s 0 (x % 256) (lit< tt) (mod-lt x (pow-pos 8)) ∙ ap f (mul-one (x % 256))
 
-    first-byte : getD T (x % 256) 0 ≡ f (x % 256)
-    first-byte = ap (λ (i : ℕ). getD T i 0) (sym (zero-add (x % 256))) ∙ s 0 (x % 256) (lit< tt) (mod-lt x (pow-pos 8)) ∙ ap f (mul-one (x % 256))
-
-    abbrev seven : ℕ
-    seven =
-        bitXor (bitXor (bitXor (bitXor (bitXor (bitXor (getD T (x % 256) 0) (getD T (256 + x / 2 ^ 8 % 256) 0)) (getD T (512 + x / 2 ^ 16 % 256) 0))
-        (getD T (768 + x / 2 ^ 24 % 256) 0)) (getD T (1024 + x / 2 ^ 32 % 256) 0)) (getD T (1280 + x / 2 ^ 40 % 256) 0)) (getD T (1536 + x / 2 ^ 48 % 256) 0)
-
-    seven-bytes : seven ≡ f (x % 2 ^ 56)
-    seven-bytes =
-        with-byte 6 _ (lit< tt) (with-byte 5 _ (lit< tt) (with-byte 4 _ (lit< tt) (with-byte 3 _ (lit< tt) (with-byte 2 _ (lit< tt) (with-byte 1 _ (lit< tt) first-byte)))))
-
-    pub image-seven : x < 2 ^ 56 → seven ≡ f x
-    image-seven h = seven-bytes ∙ ap f (mod-eq-of-lt h)
-
-    pub image-eight : x < 2 ^ 64 → bitXor seven (getD T (1792 + x / 2 ^ 56 % 256) 0) ≡ f x
-    image-eight h = with-byte 7 _ (lit< tt) seven-bytes ∙ ap f (mod-eq-of-lt h)
+      with-byte : (t y : ℕ) → t < 8 → y ≡ f (x % 2 ^ (8 * t)) → bitXor y (getD T (256 * t + x / 2 ^ (8 * t) % 256) 0) ≡ f (x % 2 ^ (8 + 8 * t))
+      with-byte t y g e =
+          ap₂ bitXor e (s t (x / 2 ^ (8 * t) % 256) g (mod-lt (x / 2 ^ (8 * t)) (pow-pos 8))) ∙ sym (more x 8 (8 * t))
 
   -- one table more: part is the t-th, made from the eight images of its bits
   pub tabled-more : (images T part rest : List ℕ) (t : ℕ) → t < 8 → 256 * t ≤ length T → length part ≡ 256 → OnBits 64 f images → Tabled t f T

@@ -112,7 +112,7 @@ fn run(
                 place: i,
             };
         }
-        let y = tables::image(tables, frame.last, x);
+        let y = tables::image(tables, x);
         let word = y >> frame.shift;
         let index = held(frame, h, g, y, word);
         if frame.k < index {

@@ -16,9 +16,6 @@ const VALUES: usize = 256;
 
 pub(crate) const WORDS: usize = BYTES * VALUES;
 
-// The first number that has an eighth byte.
-const EIGHTH: u64 = 0x100_0000_0000_0000;
-
 // As many words again: each of the first span with image added.
 fn double(table: &mut [u64], span: usize, image: u64)
     requires { ⌜ span + span ≤ length (now table) ⌝ }
@@ -63,20 +60,16 @@ pub(crate) fn fill(images: &[u64], tables: &mut [u64])
     }
 }
 
-// The image of x, from those of its bytes. The eighth is read only where a key up to the last can have one, which keys of the separation engine have not.
-pub(crate) fn image(tables: &[u64; WORDS], last: u64, x: u64) -> u64
-    requires { ⌜ x ≤ last ⌝ }
+// The image of x, from those of its bytes.
+pub(crate) fn image(tables: &[u64; WORDS], x: u64) -> u64
     ensures { λ r. ⌜ ((f : ℕ → ℕ) → Linear f → Tabled wordBytes f (now (tables .entry)) → r ≡ f x) ⌝ }
 {
-    let seven = tables[(x % 256) as usize]
+    tables[(x % 256) as usize]
         ^ tables[256 + ((x >> 8) % 256) as usize]
         ^ tables[512 + ((x >> 16) % 256) as usize]
         ^ tables[768 + ((x >> 24) % 256) as usize]
         ^ tables[1024 + ((x >> 32) % 256) as usize]
         ^ tables[1280 + ((x >> 40) % 256) as usize]
-        ^ tables[1536 + ((x >> 48) % 256) as usize];
-    if last < EIGHTH {
-        return seven;
-    }
-    seven ^ tables[1792 + ((x >> 56) % 256) as usize]
+        ^ tables[1536 + ((x >> 48) % 256) as usize]
+        ^ tables[1792 + ((x >> 56) % 256) as usize]
 }
