@@ -23,7 +23,7 @@ use Rattle.lookup.specs.Lookup.{found, notFound, compared, answer, lookupOf}
 use Rattle.lookup.proofs.Lookups.{answer-out, answer-in, compared-none, compared-above, lookup-beyond, lookup-answer}
 use Rattle.many.specs.declared.find.Frame.{Frame}
 use Rattle.many.specs.Image.{imageOf}
-use Rattle.many.specs.Inner.Images.{FrameOf, Room, Opened}
+use Rattle.many.specs.Inner.Images.{tableWords, FrameOf, Room, Opened}
 
 -- ---- the parts of an image
 
@@ -60,10 +60,11 @@ module _ (u : Record) (f : Frame) (x y : ℕ) (o : FrameOf u f) (e : y ≡ image
 
 -- ---- the tables are long enough
 
-pub frame-room : (u : Record) (t : Tables) (f : Frame) (keys indices : ℕ) → WellFormed u t → FrameOf u f → keys ≤ indices
-    → Room f (length (t .h)) (length (t .g)) (length (t .aux)) keys indices
-frame-room u t f keys indices w o h =
+pub frame-room : (u : Record) (t : Tables) (f : Frame) (images keys indices : ℕ) → WellFormed u t → FrameOf u f → images ≡ tableWords → keys ≤ indices
+    → Room f images (length (t .h)) (length (t .g)) (length (t .aux)) keys indices
+frame-room u t f images keys indices w o e h =
     record {
+      images-held = e;
       fits = record {
         shift-low = omega (arith, o .shift, o .columns-few);
         columns-low = omega (arith, o .columns, pow-pos (u .p - u .n1), pow-mono {i = u .p - u .n1} {j = maxSide} (o .columns-few));

@@ -122,23 +122,27 @@ module _ (f : ℕ → ℕ) (l : Linear f) where
           ap (λ (i : ℕ). getD new i 0) (sym k) ∙ d (m - 2 ^ b) r .1 ∙ ap₂ bitXor (s (m - 2 ^ b) r) e in
           a ∙ ap (λ (i : ℕ). bitXor (f (m - 2 ^ b)) (f i)) (sym (one-mul (2 ^ b))) ∙ sym (linear-sum b 1 (m - 2 ^ b) r) ∙ ap f q
 
-  -- the value at a word is the XOR of those at its bytes
-  pub image-bytes : (T : List ℕ) (x : ℕ) → x < 2 ^ 64 → Tabled 8 f T
-      → bitXor (bitXor (bitXor (bitXor (bitXor (bitXor (bitXor (getD T (x % 256) 0) (getD T (256 + x / 2 ^ 8 % 256) 0)) (getD T (512 + x / 2 ^ 16 % 256) 0))
-      (getD T (768 + x / 2 ^ 24 % 256) 0)) (getD T (1024 + x / 2 ^ 32 % 256) 0)) (getD T (1280 + x / 2 ^ 40 % 256) 0)) (getD T (1536 + x / 2 ^ 48 % 256) 0))
-      (getD T (1792 + x / 2 ^ 56 % 256) 0)
-      ≡ f x
-  image-bytes T x h s =
-      with-byte 7 _ (lit< tt) (with-byte 6 _ (lit< tt) (with-byte 5 _ (lit< tt) (with-byte 4 _ (lit< tt) (with-byte 3 _ (lit< tt)
-      (with-byte 2 _ (lit< tt) (with-byte 1 _ (lit< tt) start))))))
-      ∙ ap f (mod-eq-of-lt h)
-    where
-      start : getD T (x % 256) 0 ≡ f (x % 256)
-      start = ap (λ (i : ℕ). getD T i 0) (sym (zero-add (x % 256))) ∙ s 0 (x % 256) (lit< tt) (mod-lt x (pow-pos 8)) ∙ ap f (mul-one (x % 256))
+  -- the value at a word is the XOR of those at its bytes: at the lower seven, and at the eighth
+  module _ (T : List ℕ) (x : ℕ) (s : Tabled 8 f T) where
+    abbrev byte : ℕ → ℕ
+    byte t = getD T (256 * t + x / 2 ^ (8 * t) % 256) 0
 
-      with-byte : (t y : ℕ) → t < 8 → y ≡ f (x % 2 ^ (8 * t)) → bitXor y (getD T (256 * t + x / 2 ^ (8 * t) % 256) 0) ≡ f (x % 2 ^ (8 + 8 * t))
-      with-byte t y g e =
-          ap₂ bitXor e (s t (x / 2 ^ (8 * t) % 256) g (mod-lt (x / 2 ^ (8 * t)) (pow-pos 8))) ∙ sym (more x 8 (8 * t))
+    byte-value : (t : ℕ) → t < 8 → byte t ≡ f (x / 2 ^ (8 * t) % 2 ^ 8 * 2 ^ (8 * t))
+    byte-value t h = s t (x / 2 ^ (8 * t) % 256) h (mod-lt (x / 2 ^ (8 * t)) (pow-pos 8))
+
+    with-byte : (t y : ℕ) → t < 8 → y ≡ f (x % 2 ^ (8 * t)) → bitXor y (byte t) ≡ f (x % 2 ^ (8 + 8 * t))
+    with-byte t y h e = ap₂ bitXor e (byte-value t h) ∙ sym (more x 8 (8 * t))
+
+    first-byte : byte 0 ≡ f (x % 2 ^ 8)
+    first-byte = let e : x / 2 ^ (8 * 0) % 2 ^ 8 * 2 ^ (8 * 0) ≡ x % 2 ^ 8 = omega arith in byte-value 0 (lit< tt) ∙ ap f e
+
+    pub seven-bytes : bitXor (bitXor (bitXor (bitXor (bitXor (bitXor (byte 0) (byte 1)) (byte 2)) (byte 3)) (byte 4)) (byte 5)) (byte 6) ≡ f (x % 2 ^ 56)
+    seven-bytes =
+        with-byte 6 _ (lit< tt) (with-byte 5 _ (lit< tt) (with-byte 4 _ (lit< tt) (with-byte 3 _ (lit< tt) (with-byte 2 _ (lit< tt)
+        (with-byte 1 _ (lit< tt) first-byte)))))
+
+    pub eight-bytes : (y : ℕ) → y ≡ f (x % 2 ^ 56) → x < 2 ^ 64 → bitXor y (byte 7) ≡ f x
+    eight-bytes y e h = with-byte 7 y (lit< tt) e ∙ ap f (mod-eq-of-lt h)
 
   -- one table more: part is the t-th, made from the eight images of its bits
   pub tabled-more : (images T part rest : List ℕ) (t : ℕ) → t < 8 → 256 * t ≤ length T → length part ≡ 256 → OnBits 64 f images → Tabled t f T

@@ -13,11 +13,11 @@ ghost use Rattle.record.specs.Inner.Formed.{InBounds};
 ghost use Rattle.lookup.specs.Lookup.{compared, answer, lookupOf, notFound};
 ghost use Rattle.many.specs.Lookups.{left, leftBy};
 ghost use Rattle.many.specs.Image.{imageOf};
-ghost use Rattle.many.specs.Inner.Images.{FrameOf, Fits, Room, Opened};
+ghost use Rattle.many.specs.Inner.Images.{FrameOf, Fits, Room, Opened, Narrow};
 ghost use Rattle.many.specs.Inner.Keys.{Done, Refused, Stopped};
 use crate::Many;
 use crate::tables;
-use crate::tables::WORDS;
+use crate::tables::EIGHTH;
 use record::Record;
 use vectors::MAX_INPUTS;
 
@@ -85,18 +85,19 @@ fn matched(aux: &[u64], i: usize, word: u64) -> u16
     0
 }
 
-// The keys from one on, up to the first that is refused: its refusal, and how many keys are done before it.
-fn run(
+// As `run`, of keys that have an eighth byte only where they are wide.
+fn along(
     frame: Frame,
-    tables: &[u64; WORDS],
+    tables: &[u64],
     h: &[u16],
     g: &[u16],
     aux: &[u64],
     keys: &[u64],
+    wide: bool,
     from: usize,
     indices: &mut [u16],
 ) -> Many
-    requires { ⌜ Room frame (length (now h)) (length (now g)) (length (now aux)) (length (now keys)) (length (now indices)) × (from ≤ length (now keys)) ⌝ }
+    requires { ⌜ Room frame (length (now tables)) (length (now h)) (length (now g)) (length (now aux)) (length (now keys)) (length (now indices)) × (from ≤ length (now keys)) × Narrow wide (frame .last) ⌝ }
     ensures { λ r. ⌜ (from ≤ r .place) × (r .place ≤ length (now (keys .entry)))
         × ((u : Record) → Opened u (lent (now (h .entry)) (now (g .entry)) (now (aux .entry))) frame (now (tables .entry))
         → (old : List ℕ) → Done (lookupOf u (lent (now (h .entry)) (now (g .entry)) (now (aux .entry)))) (now (keys .entry)) old (now (indices .entry)) from
@@ -112,7 +113,7 @@ fn run(
                 place: i,
             };
         }
-        let y = tables::image(tables, x);
+        let y = tables::image(tables, wide, x);
         let word = y >> frame.shift;
         let index = held(frame, h, g, y, word);
         if frame.k < index {
@@ -130,10 +131,34 @@ fn run(
     }
 }
 
+// The keys from one on, up to the first that is refused: its refusal, and how many keys are done before it. Wide keys and others have a loop each, since
+// the compiler makes one for each word that `along` is told.
+fn run(
+    frame: Frame,
+    tables: &[u64],
+    h: &[u16],
+    g: &[u16],
+    aux: &[u64],
+    keys: &[u64],
+    from: usize,
+    indices: &mut [u16],
+) -> Many
+    requires { ⌜ Room frame (length (now tables)) (length (now h)) (length (now g)) (length (now aux)) (length (now keys)) (length (now indices)) × (from ≤ length (now keys)) ⌝ }
+    ensures { λ r. ⌜ (from ≤ r .place) × (r .place ≤ length (now (keys .entry)))
+        × ((u : Record) → Opened u (lent (now (h .entry)) (now (g .entry)) (now (aux .entry))) frame (now (tables .entry))
+        → (old : List ℕ) → Done (lookupOf u (lent (now (h .entry)) (now (g .entry)) (now (aux .entry)))) (now (keys .entry)) old (now (indices .entry)) from
+        → Stopped (lookupOf u (lent (now (h .entry)) (now (g .entry)) (now (aux .entry)))) (now (keys .entry)) old from (now (indices .exit)) r) ⌝ }
+{
+    if frame.last < EIGHTH {
+        return along(frame, tables, h, g, aux, keys, false, from, indices);
+    }
+    along(frame, tables, h, g, aux, keys, true, from, indices)
+}
+
 // The keys from a refused one on.
 fn go_on(
     frame: Frame,
-    tables: &[u64; WORDS],
+    tables: &[u64],
     h: &[u16],
     g: &[u16],
     aux: &[u64],
@@ -141,7 +166,7 @@ fn go_on(
     from: usize,
     indices: &mut [u16],
 )
-    requires { ⌜ Room frame (length (now h)) (length (now g)) (length (now aux)) (length (now keys)) (length (now indices)) ⌝ }
+    requires { ⌜ Room frame (length (now tables)) (length (now h)) (length (now g)) (length (now aux)) (length (now keys)) (length (now indices)) ⌝ }
     ensures { λ _. ⌜ ((u : Record) → Opened u (lent (now (h .entry)) (now (g .entry)) (now (aux .entry))) frame (now (tables .entry))
         → (old : List ℕ) → Done (lookupOf u (lent (now (h .entry)) (now (g .entry)) (now (aux .entry)))) (now (keys .entry)) old (now (indices .entry)) from
         → Refused (lookupOf u (lent (now (h .entry)) (now (g .entry)) (now (aux .entry)))) (now (keys .entry)) from
@@ -158,14 +183,14 @@ fn go_on(
 // The answer for all keys, of a unit that is well formed.
 pub(crate) fn all(
     frame: Frame,
-    tables: &[u64; WORDS],
+    tables: &[u64],
     h: &[u16],
     g: &[u16],
     aux: &[u64],
     keys: &[u64],
     indices: &mut [u16],
 ) -> Many
-    requires { ⌜ Room frame (length (now h)) (length (now g)) (length (now aux)) (length (now keys)) (length (now indices)) ⌝ }
+    requires { ⌜ Room frame (length (now tables)) (length (now h)) (length (now g)) (length (now aux)) (length (now keys)) (length (now indices)) ⌝ }
     ensures { λ r. ⌜ ((u : Record) → Opened u (lent (now (h .entry)) (now (g .entry)) (now (aux .entry))) frame (now (tables .entry))
         → left r (now (indices .exit)) ≡ leftBy (lookupOf u (lent (now (h .entry)) (now (g .entry)) (now (aux .entry)))) (now (keys .entry)) (now (indices .entry))) ⌝ }
 {

@@ -1,11 +1,11 @@
 // The images of bytes, in eight tables: one for each byte of a word.
 ghost use mathlib.Core.Path.{_≡_};
-ghost use Prim.Native.Nat.{ℕ, _+_, _<_, _≤_};
+ghost use Prim.Native.Nat.{ℕ, _+_, _*_, _/_, _%_, _^_, _<_, _≤_};
 ghost use lib.Bits.{bitXor};
 ghost use lib.ListN.{length, getD};
 ghost use Rattle.vectors.specs.Bounds.{maxInputs};
 ghost use Rattle.many.specs.Image.{Linear};
-ghost use Rattle.many.specs.Inner.Images.{wordBytes, byteBits, byteValues, tableWords, OnBits, Below, Tabled};
+ghost use Rattle.many.specs.Inner.Images.{wordBytes, byteBits, byteValues, tableWords, narrowBits, OnBits, Below, Tabled, Narrow};
 
 // The bytes of a word, the bits of a byte, its values, and the words of all tables.
 const BYTES: usize = 8;
@@ -15,6 +15,9 @@ const BITS: usize = 8;
 const VALUES: usize = 256;
 
 pub(crate) const WORDS: usize = BYTES * VALUES;
+
+// The first number that has an eighth byte.
+pub(crate) const EIGHTH: u64 = 0x100_0000_0000_0000;
 
 // As many words again: each of the first span with image added.
 fn double(table: &mut [u64], span: usize, image: u64)
@@ -60,16 +63,39 @@ pub(crate) fn fill(images: &[u64], tables: &mut [u64])
     }
 }
 
-// The image of x, from those of its bytes.
-pub(crate) fn image(tables: &[u64; WORDS], x: u64) -> u64
-    ensures { λ r. ⌜ ((f : ℕ → ℕ) → Linear f → Tabled wordBytes f (now (tables .entry)) → r ≡ f x) ⌝ }
+// The image of byte t of x. Its table is lent as a part, so that where it starts is worked out once for all keys.
+fn of_byte(tables: &[u64], t: usize, x: u64) -> u64
+    requires { ⌜ (length (now tables) ≡ tableWords) × (t < wordBytes) ⌝ }
+    ensures { λ r. ⌜ r ≡ getD (now (tables .entry)) (byteValues * t + x / 2 ^ (byteBits * t) % byteValues) 0 ⌝ }
 {
-    tables[(x % 256) as usize]
-        ^ tables[256 + ((x >> 8) % 256) as usize]
-        ^ tables[512 + ((x >> 16) % 256) as usize]
-        ^ tables[768 + ((x >> 24) % 256) as usize]
-        ^ tables[1024 + ((x >> 32) % 256) as usize]
-        ^ tables[1280 + ((x >> 40) % 256) as usize]
-        ^ tables[1536 + ((x >> 48) % 256) as usize]
-        ^ tables[1792 + ((x >> 56) % 256) as usize]
+    let start = VALUES * t;
+    let end = start + VALUES;
+    let table = &tables[start..end];
+    table[((x >> (BITS * t)) % 256) as usize]
+}
+
+// The image of the lower seven bytes of x.
+fn of_seven(tables: &[u64], x: u64) -> u64
+    requires { ⌜ length (now tables) ≡ tableWords ⌝ }
+    ensures { λ r. ⌜ ((f : ℕ → ℕ) → Linear f → Tabled wordBytes f (now (tables .entry)) → r ≡ f (x % 2 ^ narrowBits)) ⌝ }
+{
+    of_byte(tables, 0, x)
+        ^ of_byte(tables, 1, x)
+        ^ of_byte(tables, 2, x)
+        ^ of_byte(tables, 3, x)
+        ^ of_byte(tables, 4, x)
+        ^ of_byte(tables, 5, x)
+        ^ of_byte(tables, 6, x)
+}
+
+// The image of x, from those of its bytes. The eighth is read only where keys are wide: others have none.
+pub(crate) fn image(tables: &[u64], wide: bool, x: u64) -> u64
+    requires { ⌜ length (now tables) ≡ tableWords ⌝ }
+    ensures { λ r. ⌜ ((f : ℕ → ℕ) → Linear f → Tabled wordBytes f (now (tables .entry)) → Narrow wide x → r ≡ f x) ⌝ }
+{
+    let seven = of_seven(tables, x);
+    if wide {
+        return seven ^ of_byte(tables, 7, x);
+    }
+    seven
 }

@@ -47,10 +47,11 @@ lookup-many-spec =
     (λ c. search needs)
     (λ c. search needs)
     (λ c κs. search needs)
+    (λ c. search needs)
     (λ c κs.
     let d = c .before .before .before .before .before .before .before .before in
     let s = d .before .before .before .before .before .before .before .before in
-    frame-room (s .args .unit) (tables s) _ _ _ (facts d) (c .before .before .before .before .before .before .before .framed .ensures) (d .before .before .if1 .left))
+    frame-room (s .args .unit) (tables s) _ _ _ _ (facts d) (c .before .before .before .before .before .before .before .framed .ensures) (c .before .before .before .fill .kept .1 .0) (d .before .before .if1 .left))
     (λ c. search needs)
     (λ c.
     let d = c .before .before .before .before .before .before .before .before .before .before .before in

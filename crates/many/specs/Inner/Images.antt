@@ -1,7 +1,7 @@
 -- The masks of an image's bits, the images of bytes in tables, and what is taken from a unit once for all keys.
 use Prim.Native.Nat.{ℕ, zero, suc, _+_, _-_, _*_, _/_, _%_, _^_, _≤_, _<_}
 use mathlib.Core.Path.{_≡_}
-use mathlib.Core.Bool.{true}
+use mathlib.Core.Bool.{Bool, true, false}
 use mathlib.Core.List.{List, [], _∷_, _++_}
 use lib.ListN.{length, getD, take, drop}
 use Rattle.vectors.specs.Bounds.{maxInputs, maxSide}
@@ -50,6 +50,13 @@ Below count f table = (m : ℕ) → m < count → getD table m 0 ≡ f m
 abbrev pub Tabled : ℕ → (ℕ → ℕ) → List ℕ → Type 0
 Tabled count f tables = (t m : ℕ) → t < count → m < byteValues → getD tables (byteValues * t + m) 0 ≡ f (m * 2 ^ (byteBits * t))
 
+-- the bits of all bytes but the last; a key that is not wide has no others
+abbrev pub narrowBits : ℕ
+narrowBits = byteBits * (wordBytes - 1)
+
+abbrev pub Narrow : Bool → ℕ → Type 0
+Narrow wide x = wide ≡ false → x < 2 ^ narrowBits
+
 -- ---- what is taken from a unit once for all keys
 
 pub record FrameOf (u : Record) (f : Frame) : Type 0 where
@@ -70,8 +77,9 @@ pub record Fits (f : Frame) (h g : ℕ) : Type 0 where
   pub rows-held : f .rows < h
   pub cells-held : f .cells ≤ g
 
--- so is AUX, and there is a word for the index of each key
-pub record Room (f : Frame) (h g aux keys indices : ℕ) : Type 0 where
+-- so are AUX and the tables of images, and there is a word for the index of each key
+pub record Room (f : Frame) (images h g aux keys indices : ℕ) : Type 0 where
+  pub images-held : images ≡ tableWords
   pub fits : Fits f h g
   pub words-held : f .k < aux
   pub indices-held : keys ≤ indices

@@ -12,7 +12,7 @@ tables s = lent (s .args .h .now) (s .args .g .now) (s .args .aux .now)
 
 returns : tie.Need-returns
 returns c =
-    let s = c .before .before .before .before .before .before .before .before .before .before .before .before .before .before .before .before in
+    let s = c .before .before .before .before .before .before .before .before .before .before .before .before .before .before .before .before .before in
     let f = c .before .before .before .before .before .before .before .before .before .run in
     let g = c .before .before .before .before .before .go-on in
     λ u o.
@@ -21,7 +21,7 @@ returns c =
 
 returns-2 : tie.Need-returns-2
 returns-2 c =
-    let s = c .before .before .before .before .before .before .before .before .before .before .before .before .before .before .before .before .before in
+    let s = c .before .before .before .before .before .before .before .before .before .before .before .before .before .before .before .before .before .before in
     let f = c .before .before .before .before .before .before .before .before .before .before .run in
     let g = c .before .before .before .before .before .before .go-on in
     λ u o.
@@ -37,7 +37,7 @@ all-spec =
     (λ c κs. search needs)
     (λ c. search needs)
     returns
-    (λ c. omega (arith, c .before .before .before .before .before .before .before .before .before .run .ensures .1, c .before .before .before .before .before .before .before .before .before .before .before .before .before .before .before .before .good .1 .1 .1 .1 .1 .0))
+    (λ c. omega (arith, c .before .before .before .before .before .before .before .before .before .run .ensures .1, c .before .before .before .before .before .before .before .before .before .before .before .before .before .before .before .before .before .good .1 .1 .1 .1 .1 .0))
     (λ c κs. search needs)
     (λ c. search needs)
     returns-2)

@@ -23,7 +23,7 @@ abbrev μ-loop : tie.MeasureT-loop
 μ-loop frame tables h g aux keys from indices₀ i₀ indices i = length keys - i
 
 abbrev start : tie.At-loop Inv-loop μ-loop → tie.Start Inv-loop μ-loop
-start l = l .before .before .before .before .before .before
+start l = l .before .before .before .before .before .before .before
 
 abbrev tables : tie.At-loop Inv-loop μ-loop → Tables
 tables l = let s = start l in lent (s .args .h .now) (s .args .g .now) (s .args .aux .now)
@@ -32,7 +32,7 @@ run-requires : tie.Need-run-requires Inv-loop μ-loop
 run-requires c κs =
     let l = c .before .before in
     let p = start l .pre in
-    (record { fits = p .fits; words-held = p .words-held; indices-held = omega (arith, length-set (l .loop .indices) (l .loop .i) 0, l .loop .inv .0, p .indices-held) }, omega arith)
+    (record { images-held = p .images-held; fits = p .fits; words-held = p .words-held; indices-held = omega (arith, length-set (l .loop .indices) (l .loop .i) 0, l .loop .inv .0, p .indices-held) }, omega arith)
 
 loop-again : tie.Need-loop-again Inv-loop μ-loop
 loop-again c =
