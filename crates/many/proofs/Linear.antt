@@ -1,6 +1,6 @@
 -- Functions that take XOR to XOR: the number that masks make, and the values at a word from those at its bytes. Assumes nothing.
 use Prim.Native.Nat.{ℕ, zero, suc, _+_, _-_, _*_, _/_, _%_, _^_, _≤_, _<_}
-use native.Mathlib.Nat.{mod-lt, mod-mod, zero-lt-suc, add-zero, one-mul, mul-one, zero-add, mod-eq-of-lt}
+use native.Mathlib.Nat.{mod-lt, zero-lt-suc, add-zero, one-mul, mod-eq-of-lt}
 use native.Mathlib.Omega.{arith}
 use mathlib.Core.Path.{_≡_, refl, sym, ap, ap₂, _∙_}
 use mathlib.Core.List.{List, [], _∷_, _++_}
@@ -12,24 +12,22 @@ use lib.ListN.{length, getD, take, drop, set, length-set, length-drop, List·get
 use lib.Seq.{getD-set-same, getD-set-other, getD-take, getD-drop, getD-append-add, length-take-le}
 use lib.Pow.{pow-pos, mod-pow-add, pow-add}
 use Rattle.lists.proofs.Tests.{le-or-lt}
-use Rattle.vectors.specs.Bits.{bit}
-use Rattle.vectors.proofs.Bits.Laws.{xor-half, xor-low, odd-xor, ones-at}
-use Rattle.transpose.specs.Turn.{column}
+use Rattle.vectors.proofs.Bits.Laws.{xor-half, xor-low, odd-xor}
 use Rattle.vectors.specs.Masks.{valueBy, numberBy}
 use Rattle.many.specs.Image.{Linear}
 use Rattle.many.specs.Inner.Images.{OnBits, Below, Tabled}
 
 -- ---- the number that masks make
 
+pub sums-mod : (a b : ℕ) → (a + b) % 2 ≡ (a % 2 + b % 2) % 2
+sums-mod a b = omega arith
+
 value-xor : (m a b : ℕ) → valueBy m (bitXor a b) ≡ (valueBy m a + valueBy m b) % 2
 value-xor m a b =
     ap (λ (n : ℕ). ones n % 2) (and-comm (bitXor a b) m) ∙ odd-xor m a b
-    ∙ ap₂ (λ (p q : ℕ). (ones p + ones q) % 2) (and-comm m a) (and-comm m b) ∙ sums (ones (bitAnd a m)) (ones (bitAnd b m))
-  where
-    sums : (a b : ℕ) → (a + b) % 2 ≡ (a % 2 + b % 2) % 2
-    sums a b = omega arith
+    ∙ ap₂ (λ (p q : ℕ). (ones p + ones q) % 2) (and-comm m a) (and-comm m b) ∙ sums-mod (ones (bitAnd a m)) (ones (bitAnd b m))
 
-digit-xor : (p q r s : ℕ) → p < 2 → r < 2 → bitXor (p + 2 * q) (r + 2 * s) ≡ (p + r) % 2 + 2 * bitXor q s
+pub digit-xor : (p q r s : ℕ) → p < 2 → r < 2 → bitXor (p + 2 * q) (r + 2 * s) ≡ (p + r) % 2 + 2 * bitXor q s
 digit-xor p q r s hp hr =
     let a : (p + 2 * q) / 2 ≡ q = omega arith in
     let b : (r + 2 * s) / 2 ≡ s = omega arith in
@@ -45,15 +43,6 @@ number-linear [] a b = refl
 number-linear (m ∷ ms) a b =
     ap₂ (λ (p q : ℕ). p + 2 * q) (value-xor m a b) (number-linear ms a b)
     ∙ sym (digit-xor (valueBy m a) (numberBy ms a) (valueBy m b) (numberBy ms b) (mod-lt _ (zero-lt-suc 1)) (mod-lt _ (zero-lt-suc 1)))
-
-value-bit : (m b : ℕ) → bit m b ≡ valueBy m (2 ^ b)
-value-bit m b = sym (ap (λ (n : ℕ). ones n % 2) (and-comm (2 ^ b) m) ∙ ap (λ (n : ℕ). n % 2) (ones-at m b) ∙ mod-mod (m / 2 ^ b) 2)
-
--- a column of the masks is their number at a single bit
-pub column-number : (b : ℕ) (ms : List ℕ) → column b ms ≡ numberBy ms (2 ^ b)
-unfolding column numberBy
-column-number b [] = refl
-column-number b (m ∷ ms) = ap₂ (λ (p q : ℕ). p + 2 * q) (value-bit m b) (column-number b ms)
 
 -- ---- a table made twice as long: l at entry m of the loop, left of old
 

@@ -14,7 +14,7 @@ ghost use Rattle.lookup.specs.Lookup.{compared, answer, lookupOf, notFound};
 ghost use Rattle.many.specs.Lookups.{left, leftBy};
 ghost use Rattle.many.specs.Image.{imageOf};
 ghost use Rattle.many.specs.Inner.Images.{FrameOf, Fits, Room, Opened, Narrow};
-ghost use Rattle.many.specs.Inner.Keys.{Done, Refused, Stopped};
+ghost use Rattle.many.specs.Inner.Keys.{Done, Refused, Ran};
 use crate::Many;
 use crate::tables;
 use crate::tables::EIGHTH;
@@ -98,10 +98,8 @@ fn along(
     indices: &mut [u16],
 ) -> Many
     requires { ⌜ Room frame (length (now tables)) (length (now h)) (length (now g)) (length (now aux)) (length (now keys)) (length (now indices)) × (from ≤ length (now keys)) × Narrow wide (frame .last) ⌝ }
-    ensures { λ r. ⌜ (from ≤ r .place) × (r .place ≤ length (now (keys .entry)))
-        × ((u : Record) → Opened u (lent (now (h .entry)) (now (g .entry)) (now (aux .entry))) frame (now (tables .entry))
-        → (old : List ℕ) → Done (lookupOf u (lent (now (h .entry)) (now (g .entry)) (now (aux .entry)))) (now (keys .entry)) old (now (indices .entry)) from
-        → Stopped (lookupOf u (lent (now (h .entry)) (now (g .entry)) (now (aux .entry)))) (now (keys .entry)) old from (now (indices .exit)) r) ⌝ }
+    ensures { λ r. ⌜ Ran frame (now (tables .entry)) (lent (now (h .entry)) (now (g .entry)) (now (aux .entry))) (now (keys .entry)) from
+        (now (indices .entry)) (now (indices .exit)) r ⌝ }
 {
     let count = keys.len();
     let mut i = from;
@@ -144,10 +142,8 @@ fn run(
     indices: &mut [u16],
 ) -> Many
     requires { ⌜ Room frame (length (now tables)) (length (now h)) (length (now g)) (length (now aux)) (length (now keys)) (length (now indices)) × (from ≤ length (now keys)) ⌝ }
-    ensures { λ r. ⌜ (from ≤ r .place) × (r .place ≤ length (now (keys .entry)))
-        × ((u : Record) → Opened u (lent (now (h .entry)) (now (g .entry)) (now (aux .entry))) frame (now (tables .entry))
-        → (old : List ℕ) → Done (lookupOf u (lent (now (h .entry)) (now (g .entry)) (now (aux .entry)))) (now (keys .entry)) old (now (indices .entry)) from
-        → Stopped (lookupOf u (lent (now (h .entry)) (now (g .entry)) (now (aux .entry)))) (now (keys .entry)) old from (now (indices .exit)) r) ⌝ }
+    ensures { λ r. ⌜ Ran frame (now (tables .entry)) (lent (now (h .entry)) (now (g .entry)) (now (aux .entry))) (now (keys .entry)) from
+        (now (indices .entry)) (now (indices .exit)) r ⌝ }
 {
     if frame.last < EIGHTH {
         return along(frame, tables, h, g, aux, keys, false, from, indices);
