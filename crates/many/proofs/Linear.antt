@@ -1,6 +1,6 @@
 -- Functions that take XOR to XOR: the number that masks make, and the values at a word from those at its bytes. Assumes nothing.
 use Prim.Native.Nat.{ℕ, zero, suc, _+_, _-_, _*_, _/_, _%_, _^_, _≤_, _<_}
-use native.Mathlib.Nat.{mod-lt, zero-lt-suc, add-zero, one-mul, mod-eq-of-lt}
+use native.Mathlib.Nat.{mod-lt, zero-lt-suc, add-zero, one-mul, mod-eq-of-lt, div-eq-of-lt, lt-of-lt-of-le}
 use native.Mathlib.Omega.{arith}
 use mathlib.Core.Path.{_≡_, refl, sym, ap, ap₂, _∙_}
 use mathlib.Core.List.{List, [], _∷_, _++_}
@@ -8,9 +8,9 @@ use mathlib.Core.Logic.{⊎-elim}
 use lib.Bits.{bitAnd, bitXor, and-comm, xor-self, xor-block, xor-comm, xor-shifted}
 use lib.Count.{ones}
 use lib.Dec.{lit<}
-use lib.ListN.{length, getD, take, drop, set, length-set, length-drop, List·getD-append}
+use lib.ListN.{length, getD, take, drop, set, replicate, length-set, length-drop, getD-replicate, List·getD-append}
 use lib.Seq.{getD-set-same, getD-set-other, getD-take, getD-drop, getD-append-add, length-take-le}
-use lib.Pow.{pow-pos, mod-pow-add, pow-add}
+use lib.Pow.{pow-pos, pow-mono, mod-pow-add, pow-add}
 use Rattle.lists.proofs.Tests.{le-or-lt}
 use Rattle.vectors.proofs.Bits.Laws.{xor-half, xor-low, odd-xor}
 use Rattle.vectors.specs.Masks.{valueBy, numberBy}
@@ -111,13 +111,16 @@ module _ (f : ℕ → ℕ) (l : Linear f) where
           ap (λ (i : ℕ). getD new i 0) (sym k) ∙ d (m - 2 ^ b) r .1 ∙ ap₂ bitXor (s (m - 2 ^ b) r) e in
           a ∙ ap (λ (i : ℕ). bitXor (f (m - 2 ^ b)) (f i)) (sym (one-mul (2 ^ b))) ∙ sym (linear-sum b 1 (m - 2 ^ b) r) ∙ ap f q
 
-  -- the value at a word is the XOR of those at its bytes: at the lower seven, and at the eighth
-  module _ (T : List ℕ) (x : ℕ) (s : Tabled 8 f T) where
+  -- the value at a word is the XOR of those at its bytes: at the lower seven, and at the eighth. Of bytes past those that are made, all are 0
+  module _ (T : List ℕ) (x count : ℕ) (s : Tabled count f T) (few : x < 2 ^ (8 * count)) where
     abbrev byte : ℕ → ℕ
     byte t = getD T (256 * t + x / 2 ^ (8 * t) % 256) 0
 
+    past : (t : ℕ) → count ≤ t → x / 2 ^ (8 * t) % 256 ≡ 0
+    past t h = ap (λ (y : ℕ). y % 256) (div-eq-of-lt (lt-of-lt-of-le few (pow-mono {i = 8 * count} {j = 8 * t} (omega arith))))
+
     byte-value : (t : ℕ) → t < 8 → byte t ≡ f (x / 2 ^ (8 * t) % 2 ^ 8 * 2 ^ (8 * t))
-    byte-value t h = s t (x / 2 ^ (8 * t) % 256) h (mod-lt (x / 2 ^ (8 * t)) (pow-pos 8))
+    byte-value t h = s t (x / 2 ^ (8 * t) % 256) h (mod-lt (x / 2 ^ (8 * t)) (pow-pos 8)) (past t)
 
     with-byte : (t y : ℕ) → t < 8 → y ≡ f (x % 2 ^ (8 * t)) → bitXor y (byte t) ≡ f (x % 2 ^ (8 + 8 * t))
     with-byte t y h e = ap₂ bitXor e (byte-value t h) ∙ sym (more x 8 (8 * t))
@@ -133,10 +136,18 @@ module _ (f : ℕ → ℕ) (l : Linear f) where
     pub eight-bytes : (y : ℕ) → y ≡ f (x % 2 ^ 56) → x < 2 ^ 64 → bitXor y (byte 7) ≡ f x
     eight-bytes y e h = with-byte 7 y (lit< tt) e ∙ ap f (mod-eq-of-lt h)
 
-  -- one table more: part is the t-th, made from the eight images of its bits
+  -- no table made: the first word of each is 0
+  pub tabled-none : Tabled 0 f (replicate 2048 0)
+  tabled-none t m h g z =
+      let e : m ≡ 0 = z (omega arith) in
+      let k : 0 * 2 ^ (8 * t) ≡ 0 = omega arith in
+      getD-replicate 2048 (256 * t + m) 0 0 (omega arith) ∙ sym (ap (λ (k : ℕ). f (k * 2 ^ (8 * t))) e ∙ ap f k ∙ linear-zero)
+
+  -- one table more: part is the t-th, made from the eight images of its bits, and rest what comes after it
   pub tabled-more : (images T part rest : List ℕ) (t : ℕ) → t < 8 → 256 * t ≤ length T → length part ≡ 256 → OnBits 64 f images → Tabled t f T
-      → ((g : ℕ → ℕ) → Linear g → OnBits 8 g (take 8 (drop (8 * t) images)) → Below 256 g part) → Tabled (t + 1) f (take (256 * t) T ++ (part ++ rest))
-  tabled-more images T part rest t h n z e s p i m hi hm = ⊎-elim here before (le-or-lt t i)
+      → ((k : ℕ) → getD rest k 0 ≡ getD T (256 * t + 256 + k) 0) → ((g : ℕ → ℕ) → Linear g → OnBits 8 g (take 8 (drop (8 * t) images)) → Below 256 g part)
+      → Tabled (t + 1) f (take (256 * t) T ++ (part ++ rest))
+  tabled-more images T part rest t h n z e s after p i m hi hm past = ⊎-elim (λ g. ⊎-elim (here g) later (le-or-lt i t)) before (le-or-lt t i)
     where
       size : length (take (256 * t) T) ≡ 256 * t
       size = length-take-le (256 * t) T n
@@ -147,8 +158,8 @@ module _ (f : ℕ → ℕ) (l : Linear f) where
           getD-take 8 (drop (8 * t) images) b 0 hb ∙ getD-drop (8 * t) images b 0 ∙ e (8 * t + b) (omega arith)
           ∙ ap f (ap (λ (k : ℕ). 2 ^ k) q ∙ pow-add 2 b (8 * t))
 
-      here : t ≤ i → getD (take (256 * t) T ++ (part ++ rest)) (256 * i + m) 0 ≡ f (m * 2 ^ (8 * i))
-      here g =
+      here : t ≤ i → i ≤ t → getD (take (256 * t) T ++ (part ++ rest)) (256 * i + m) 0 ≡ f (m * 2 ^ (8 * i))
+      here g l =
           let q : i ≡ t = omega arith in
           let j : 256 * t + m ≡ length (take (256 * t) T) + m = omega (arith, size) in
           rw q
@@ -158,4 +169,17 @@ module _ (f : ℕ → ℕ) (l : Linear f) where
       before : i < t → getD (take (256 * t) T ++ (part ++ rest)) (256 * i + m) 0 ≡ f (m * 2 ^ (8 * i))
       before g =
           let q : 256 * i + m < 256 * t = omega arith in
-          List·getD-append (take (256 * t) T) (part ++ rest) 0 (256 * i + m) (omega (arith, size)) ∙ getD-take (256 * t) T (256 * i + m) 0 q ∙ s i m g hm
+          List·getD-append (take (256 * t) T) (part ++ rest) 0 (256 * i + m) (omega (arith, size)) ∙ getD-take (256 * t) T (256 * i + m) 0 q
+          ∙ s i m hi hm (λ l. absurd (omega arith))
+
+      later : t < i → getD (take (256 * t) T ++ (part ++ rest)) (256 * i + m) 0 ≡ f (m * 2 ^ (8 * i))
+      later g =
+          let k = 256 * i + m - 256 * t - 256 in
+          let j : 256 * i + m ≡ length (take (256 * t) T) + (length part + k) = omega (arith, size) in
+          let q : 256 * t + 256 + k ≡ 256 * i + m = omega arith in
+          ap (λ (a : ℕ). getD (take (256 * t) T ++ (part ++ rest)) a 0) j ∙ getD-append-add (take (256 * t) T) (part ++ rest) (length part + k) 0
+          ∙ getD-append-add part rest k 0 ∙ after k ∙ ap (λ (a : ℕ). getD T a 0) q ∙ s i m hi hm (λ l. past (omega arith))
+
+-- keys of n bits have no more bytes than these
+pub key-bytes : (n x : ℕ) → x < 2 ^ n → x < 2 ^ (8 * ((n + 8 - 1) / 8))
+key-bytes n x h = lt-of-lt-of-le h (pow-mono {i = n} {j = 8 * ((n + 8 - 1) / 8)} (omega arith))

@@ -4,6 +4,7 @@ ghost use Rattle.record.specs.Tables.{lent};
 ghost use Rattle.lookup.specs.Lookup.{lookupOf};
 ghost use Rattle.many.specs.Lookups.{refusedAt, left, lookupMany};
 use record::Record;
+use tables::BITS;
 use tables::WORDS;
 
 mod find;
@@ -44,6 +45,6 @@ pub fn lookup_many(
     let frame = find::framed(unit);
     let images = images::images(unit);
     let mut tables = [0u64; WORDS];
-    tables::fill(&images, &mut tables);
+    tables::fill(&images, (unit.n + BITS - 1) / BITS, &mut tables);
     find::all(frame, &tables, h, g, aux, keys, indices)
 }

@@ -2,7 +2,7 @@
 ghost use mathlib.Core.Path.{_≡_};
 ghost use Prim.Native.Nat.{ℕ, _+_, _*_, _/_, _%_, _^_, _<_, _≤_};
 ghost use lib.Bits.{bitXor};
-ghost use lib.ListN.{length, getD};
+ghost use lib.ListN.{length, getD, replicate};
 ghost use Rattle.vectors.specs.Bounds.{maxInputs};
 ghost use Rattle.many.specs.Image.{Linear};
 ghost use Rattle.many.specs.Inner.Images.{wordBytes, byteBits, byteValues, tableWords, narrowBits, OnBits, Below, Tabled, Narrow};
@@ -10,7 +10,7 @@ ghost use Rattle.many.specs.Inner.Images.{wordBytes, byteBits, byteValue
 // The bytes of a word, the bits of a byte, its values, and the words of all tables.
 const BYTES: usize = 8;
 
-const BITS: usize = 8;
+pub(crate) const BITS: usize = 8;
 
 const VALUES: usize = 256;
 
@@ -47,13 +47,13 @@ fn fill_one(images: &[u64], table: &mut [u64])
     }
 }
 
-// The images of the bytes of a word, from those of its bits.
-pub(crate) fn fill(images: &[u64], tables: &mut [u64])
-    requires { ⌜ (length (now images) ≡ maxInputs) × (length (now tables) ≡ tableWords) ⌝ }
-    ensures { λ _. ⌜ ((f : ℕ → ℕ) → Linear f → OnBits maxInputs f (now (images .entry)) → Tabled wordBytes f (now (tables .exit))) ⌝ }
+// The images of the first bytes of a word, from those of its bits, into tables of zeros. So many bytes are enough for keys that have no more.
+pub(crate) fn fill(images: &[u64], bytes: usize, tables: &mut [u64])
+    requires { ⌜ (length (now images) ≡ maxInputs) × (bytes ≤ wordBytes) × (now tables ≡ replicate tableWords 0) ⌝ }
+    ensures { λ _. ⌜ ((f : ℕ → ℕ) → Linear f → OnBits maxInputs f (now (images .entry)) → Tabled bytes f (now (tables .exit))) ⌝ }
 {
     let mut t = 0;
-    while t < BYTES {
+    while t < bytes {
         let b = BITS * t;
         let m = VALUES * t;
         let b_end = b + BITS;
@@ -77,7 +77,7 @@ fn of_byte(tables: &[u64], t: usize, x: u64) -> u64
 // The image of the lower seven bytes of x.
 fn of_seven(tables: &[u64], x: u64) -> u64
     requires { ⌜ length (now tables) ≡ tableWords ⌝ }
-    ensures { λ r. ⌜ ((f : ℕ → ℕ) → Linear f → Tabled wordBytes f (now (tables .entry)) → r ≡ f (x % 2 ^ narrowBits)) ⌝ }
+    ensures { λ r. ⌜ ((f : ℕ → ℕ) (bytes : ℕ) → Linear f → Tabled bytes f (now (tables .entry)) → x < 2 ^ (byteBits * bytes) → r ≡ f (x % 2 ^ narrowBits)) ⌝ }
 {
     of_byte(tables, 0, x)
         ^ of_byte(tables, 1, x)
@@ -91,7 +91,7 @@ fn of_seven(tables: &[u64], x: u64) -> u64
 // The image of x, from those of its bytes. The eighth is read only where keys are wide: others have none.
 pub(crate) fn image(tables: &[u64], wide: bool, x: u64) -> u64
     requires { ⌜ length (now tables) ≡ tableWords ⌝ }
-    ensures { λ r. ⌜ ((f : ℕ → ℕ) → Linear f → Tabled wordBytes f (now (tables .entry)) → Narrow wide x → r ≡ f x) ⌝ }
+    ensures { λ r. ⌜ ((f : ℕ → ℕ) (bytes : ℕ) → Linear f → Tabled bytes f (now (tables .entry)) → x < 2 ^ (byteBits * bytes) → Narrow wide x → r ≡ f x) ⌝ }
 {
     let seven = of_seven(tables, x);
     if wide {

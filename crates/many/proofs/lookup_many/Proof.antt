@@ -1,5 +1,6 @@
 -- `many::lookup_many` meets its contract. Assumes nothing.
-use mathlib.Core.Path.{_≡_, sym, _∙_}
+use native.Mathlib.Omega.{arith}
+use mathlib.Core.Path.{_≡_, refl, sym, _∙_}
 use mathlib.Core.Bool.{true, false}
 use borrow.Author.Tests.{not-true, not-false}
 use Rattle.record.specs.Tables.{Tables, lent}
@@ -45,24 +46,26 @@ lookup-many-spec =
     (λ c κs. facts c .bounds)
     (λ c κs. let f = facts (c .before) in (f .bounds, f .inputs))
     (λ c. search needs)
+    (λ c. omega (arith, facts (c .before .before .before .before) .bounds .inputs))
     (λ c. search needs)
-    (λ c κs. search needs)
+    (λ c. search needs)
+    (λ c κs. (search needs, omega (arith, facts (c .before .before .before .before .before) .bounds .inputs), refl))
     (λ c. search needs)
     (λ c κs.
-    let d = c .before .before .before .before .before .before .before .before in
+    let d = c .before .before .before .before .before .before .before .before .before in
     let s = d .before .before .before .before .before .before .before .before in
-    frame-room (s .args .unit) (tables s) _ _ _ _ (facts d) (c .before .before .before .before .before .before .before .framed .ensures) (c .before .before .before .fill .kept .1 .0) (d .before .before .if1 .left))
+    frame-room (s .args .unit) (tables s) _ _ _ _ (facts d) (c .before .before .before .before .before .before .before .before .framed .ensures) (c .before .before .before .fill .kept .1 .1 .0) (d .before .before .if1 .left))
     (λ c. search needs)
     (λ c.
-    let d = c .before .before .before .before .before .before .before .before .before .before .before in
+    let d = c .before .before .before .before .before .before .before .before .before .before .before .before in
     let s = d .before .before .before .before .before .before .before .before in
     let u = s .args .unit in
-    let o = c .before .before .before .before .before .before .before .before .before .before .framed .ensures in
+    let o = c .before .before .before .before .before .before .before .before .before .before .before .framed .ensures in
     c .before .before .all .ensures u
     (record {
       frame = o;
       formed = formed d;
-      tabled = c .before .before .before .before .before .before .fill .ensures (numberBy (imageMasks u)) (number-linear (imageMasks u)) (c .before .before .before .before .before .before .before .before .before .images .ensures);
+      tabled = c .before .before .before .before .before .before .fill .ensures (numberBy (imageMasks u)) (number-linear (imageMasks u)) (c .before .before .before .before .before .before .before .before .before .before .images .ensures);
       image = image-masks u (facts d .bounds) (facts d .inputs) (o .kinds);
     })
     ∙ many-by (lookupOf u (tables s)) _ _ (d .before .before .if1 .left)))

@@ -46,9 +46,14 @@ OnBits count f images = (b : ℕ) → b < count → getD images b 0 ≡ f (2 ^ b
 abbrev pub Below : ℕ → (ℕ → ℕ) → List ℕ → Type 0
 Below count f table = (m : ℕ) → m < count → getD table m 0 ≡ f m
 
--- so many tables: the values of f at each byte, the first byte in the lowest place
+-- the values of f at each byte, the first byte in the lowest place, in tables of which so many are made; in the others at the byte 0 alone
 abbrev pub Tabled : ℕ → (ℕ → ℕ) → List ℕ → Type 0
-Tabled count f tables = (t m : ℕ) → t < count → m < byteValues → getD tables (byteValues * t + m) 0 ≡ f (m * 2 ^ (byteBits * t))
+Tabled count f tables =
+    (t m : ℕ) → t < wordBytes → m < byteValues → (count ≤ t → m ≡ 0) → getD tables (byteValues * t + m) 0 ≡ f (m * 2 ^ (byteBits * t))
+
+-- the bytes of a key of n bits
+abbrev pub keyBytes : ℕ → ℕ
+keyBytes n = (n + byteBits - 1) / byteBits
 
 -- the bits of all bytes but the last; a key that is not wide has no others
 abbrev pub narrowBits : ℕ
@@ -88,5 +93,5 @@ pub record Room (f : Frame) (images h g aux keys indices : ℕ) : Type 0 where
 pub record Opened (u : Record) (t : Tables) (f : Frame) (images : List ℕ) : Type 0 where
   pub frame : FrameOf u f
   pub formed : wellFormed u t ≡ true
-  pub tabled : Tabled wordBytes (numberBy (imageMasks u)) images
+  pub tabled : Tabled (keyBytes (u .n)) (numberBy (imageMasks u)) images
   pub image : (x : ℕ) → x < 2 ^ maxInputs → numberBy (imageMasks u) x ≡ imageOf u x

@@ -1,17 +1,18 @@
 -- `many::find::along` meets its contract. Assumes nothing.
-use Prim.Native.Nat.{ℕ, _-_, _≤_, _<_}
+use Prim.Native.Nat.{ℕ, _-_, _^_, _≤_, _<_}
 use native.Mathlib.Omega.{arith}
 use mathlib.Core.Path.{_≡_, refl, _∙_}
 use mathlib.Core.List.{List}
 use lib.ListN.{length, getD, length-set}
+use lib.Pow.{pow-pos}
 use Rattle.vectors.specs.Masks.{numberBy}
 use Rattle.record.specs.declared.Record.{Record}
 use Rattle.record.specs.Tables.{Tables, lent}
 use Rattle.lookup.specs.Lookup.{compared, answer, lookupOf}
 use Rattle.many.specs.Image.{imageOf}
-use Rattle.many.specs.Inner.Images.{imageMasks, Opened}
+use Rattle.many.specs.Inner.Images.{keyBytes, imageMasks, Opened}
 use Rattle.many.specs.Inner.Keys.{Done}
-use Rattle.many.proofs.Linear.{number-linear}
+use Rattle.many.proofs.Linear.{number-linear, key-bytes}
 use Rattle.many.proofs.Answers.{word-of, key-beyond, key-above, key-found}
 use Rattle.many.proofs.Keys.{Stage, stage-none, stage-more, stage-stop, stage-all}
 use borrow.Author.Needs.{needs}
@@ -45,7 +46,9 @@ key-there c = omega arith
 image-is : (c : tie.After-image Inv-loop μ-loop) (u : Record) → Open (c .before .before .before .before .before) u → c .image .result ≡ imageOf u (key (c .before .before .before .before .before))
 image-is c u o =
     let l = c .before .before .before .before .before in
-    c .image .ensures (numberBy (imageMasks u)) (number-linear (imageMasks u)) (o .tabled) (λ e. omega (arith, start l .pre .2 e))
+    let key-in : key l < 2 ^ u .n = omega (arith, o .frame .last, pow-pos (u .n)) in
+    c .image .ensures (numberBy (imageMasks u)) (keyBytes (u .n)) (number-linear (imageMasks u)) (o .tabled) (key-bytes (u .n) (key l) key-in)
+    (λ e. omega (arith, start l .pre .2 e))
     ∙ o .image _ (omega (arith, c .before .before .before .shared-slice-known6 .given (l .loop .i)))
 
 held-is : (c : tie.After-held Inv-loop μ-loop) (u : Record) → Open (c .before .before .before .before .before .before .before) u

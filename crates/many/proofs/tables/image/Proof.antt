@@ -12,10 +12,10 @@ returns : tie.Need-returns
 returns c =
     let b = c .before .before .of-seven in
     let a = c .before .before .before .before .args in
-    λ f l s n. ap (bitXor (b .result)) (c .of-byte .ensures) ∙ eight-bytes f l (a .tables .now) (a .x) s _ (b .ensures f l s) (omega arith)
+    λ f n l s h w. ap (bitXor (b .result)) (c .of-byte .ensures) ∙ eight-bytes f l (a .tables .now) (a .x) n s h _ (b .ensures f n l s h) (omega arith)
 
 returns-2 : tie.Need-returns-2
-returns-2 c = λ f l s n. c .before .of-seven .ensures f l s ∙ ap f (mod-eq-of-lt (n (c .if1 .left)))
+returns-2 c = λ f n l s h w. c .before .of-seven .ensures f n l s h ∙ ap f (mod-eq-of-lt (w (c .if1 .left)))
 
 pub image-spec : {M : Type 1} → statement M
 image-spec =

@@ -15,13 +15,13 @@ returns c =
     let c2 = c3 .before in
     let c1 = c2 .before in
     let a = c1 .before .before .args in
-    λ f l s.
+    λ f n l s h.
     ap₂ bitXor
     (ap₂ bitXor
     (ap₂ bitXor (ap₂ bitXor (ap₂ bitXor (ap₂ bitXor (c1 .of-byte .ensures) (c2 .of-byte2 .ensures)) (c3 .of-byte3 .ensures)) (c4 .of-byte4 .ensures)) (c5 .of-byte5 .ensures))
     (c6 .of-byte6 .ensures))
     (c .of-byte7 .ensures)
-    ∙ seven-bytes f l (a .tables .now) (a .x) s
+    ∙ seven-bytes f l (a .tables .now) (a .x) n s h
 
 pub of-seven-spec : {M : Type 1} → statement M
 of-seven-spec =
