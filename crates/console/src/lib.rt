@@ -14,10 +14,13 @@ fn room() -> [u8; 65537]
     [0; 65537]
 }
 
-fn page() -> [u8; words::PAGE]
+// So many bytes hold every answer.
+const PAGE: usize = words::PAGE;
+
+fn page() -> [u8; PAGE]
     ensures { λ r. ⌜ pageSize ≡ length r ⌝ }
 {
-    [0; words::PAGE]
+    [0; PAGE]
 }
 
 // ---- the answer
