@@ -1,5 +1,7 @@
 // One vector added to a unit. Of the numbers registered only that whose first cell is the new vector's can be its own, or agree with it on
 // every variable; so no list is made.
+#![tactic(auto)]
+
 ghost use Rattle.std.specs.Prelude.{◌≡◌, List, ℕ, suc, ◌^◌, ◌≤◌, ◌<◌, length, set};
 ghost use Rattle.vectors.specs.Bounds.{max_variables, max_vectors};
 ghost use Rattle.record.specs.Record.{blank_record};
@@ -21,7 +23,7 @@ use vectors::{MAX_VECTORS, MAX_WORDS};
 mod row;
 
 // Where a vector belongs: its row, of n1 bits, what H says of that row, its column, and its comparison word.
-#[derive(Drop)]
+#[derive(Clone, Copy)]
 pub(crate) struct Seat {
     pub n1: u64,
     pub row: u64,

@@ -1,4 +1,6 @@
 // A vector added to a unit, for C and Rust, over slices and the record of crate `flat`.
+#![tactic(auto)]
+
 ghost use Rattle.std.specs.Prelude.{◌≡◌};
 ghost use Rattle.record.specs.Tables.{lent};
 ghost use Rattle.bridge.specs.Calls.{left};

@@ -1,4 +1,6 @@
 // Vectors added to a unit one after another, and the file of the amended unit.
+#![tactic(auto)]
+
 ghost use Rattle.std.specs.Prelude.{◌≡◌};
 ghost use Rattle.record.specs.Tables.{lent};
 ghost use Rattle.build.specs.Build.{after};

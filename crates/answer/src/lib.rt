@@ -1,4 +1,6 @@
 // What the program writes for what it reads.
+#![tactic(auto)]
+
 ghost use Rattle.std.specs.Prelude.{◌≡◌};
 ghost use Rattle.record.specs.Tables.{lent};
 ghost use Rattle.print.specs.Print.{printed, fitted};
@@ -20,7 +22,7 @@ pub const AUX_WORDS: usize = MAX_LISTED + 1;
 pub const ALLOWANCE: u64 = 0xffff_ffff;
 
 // What a text leaves: whether it is a list, and if so what the build of its unit answers.
-#[derive(Drop)]
+#[derive(Clone, Copy)]
 pub struct Made {
     pub good: bool,
     pub built: Built,

@@ -1,4 +1,6 @@
 // Blocks of 512 bytes: an opening of four bytes, a payload, and a check over both.
+#![tactic(auto)]
+
 ghost use Rattle.std.specs.Prelude.{◌≡◌, ◌++◌, ◌+◌, ◌-◌, ◌*◌, ◌%◌, ◌≤◌, ◌<◌, length, take, drop, replicate};
 ghost use Rattle.std.proofs.lemmas.List.Edits.{sets};
 ghost use Rattle.block.specs.Bytes.{little_of, words_of};
@@ -29,7 +31,7 @@ pub const WORDS16: usize = (CHECK_AT - PAYLOAD_AT) / 2;
 pub const WORDS64: usize = (CHECK_AT - PAYLOAD_AT) / 8;
 
 // How a block begins; of the number the lowest 16 bits are written.
-#[derive(Drop)]
+#[derive(Clone, Copy)]
 pub struct Opening {
     pub kind: u8,
     pub version: u8,
@@ -37,7 +39,7 @@ pub struct Opening {
 }
 
 // The sum of some bytes, and their sum with weights that fall by one to 1 at the last.
-#[derive(Drop)]
+#[derive(Clone, Copy)]
 struct Totals {
     plain: u32,
     weighed: u32,

@@ -1,4 +1,6 @@
 // The unit for C and Rust: seven functions over slices and a flat record of 40 words.
+#![tactic(auto)]
+
 ghost use Rattle.std.specs.Prelude.{◌≡◌, ◌∷◌, [], ◌<◌};
 ghost use Rattle.record.specs.Tables.{lent};
 ghost use Rattle.bridge.specs.Calls as spec;

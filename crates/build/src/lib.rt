@@ -1,4 +1,6 @@
 // The two builds: the checks in their order, the variables chosen or given, and then the tables and the record.
+#![tactic(auto)]
+
 ghost use Rattle.std.specs.Prelude.{◌≡◌};
 ghost use Rattle.record.specs.Tables.{lent};
 ghost use Rattle.build.specs.Build.{after, build_chosen, build_given};
@@ -10,7 +12,7 @@ mod checks;
 mod finish;
 
 // A refusal with its place; 0 and 0 for none.
-#[derive(Drop)]
+#[derive(Clone, Copy)]
 pub struct Refusal {
     pub number: u8,
     pub place: usize,
@@ -18,7 +20,7 @@ pub struct Refusal {
 
 // The refusal's number and its place, 0 and 0 where the call is accepted; beside 13 the least number of cells with which its row would have
 // a place, else 0; the record, blank beside a refusal.
-#[derive(Drop)]
+#[derive(Clone, Copy)]
 pub struct Built {
     pub refusal: u8,
     pub place: usize,
@@ -27,7 +29,7 @@ pub struct Built {
 }
 
 // How vectors of n bits go into rows and columns: by the first p variables, n1 of them for rows.
-#[derive(Drop)]
+#[derive(Clone, Copy)]
 pub(crate) struct Chart {
     pub n: usize,
     pub p: usize,

@@ -1,5 +1,6 @@
 // The program on the file of a unit: the list S is packed, and the file is then shown, listed, searched, damaged and cut; and a list of
 // profile keys. The output is compared.
+#![tactic(auto)]
 
 const LIST: [u8; 26] = *b"6 2 7 16 18 20 28 32 55 58";
 

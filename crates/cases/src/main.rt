@@ -1,4 +1,6 @@
 // Runs the sample units that are not proved as theorems, and each cause of refusals 1 to 13 and 41; the output is compared.
+#![tactic(auto)]
+
 mod builds;
 mod say;
 

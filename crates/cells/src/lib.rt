@@ -1,4 +1,6 @@
 // The least number of cells with which a list is accepted.
+#![tactic(auto)]
+
 ghost use Rattle.std.specs.Prelude.{◌≡◌};
 ghost use Rattle.build.specs.Cells as spec;
 ghost use Rattle.print.specs.Print.{printed, fitted};

@@ -12,7 +12,7 @@ use vectors::MAX_WORDS;
 const MAX_GROUPS: usize = MAX_WORDS / 2;
 
 // The members, indices from 0, group after group, and how long each group is.
-#[derive(Drop)]
+#[derive(Clone, Copy)]
 pub(crate) struct Groups {
     pub order: [u16; MAX_WORDS],
     pub sizes: [u16; MAX_GROUPS],
@@ -21,7 +21,7 @@ pub(crate) struct Groups {
 }
 
 // How many members and groups have been written.
-#[derive(Drop)]
+#[derive(Clone, Copy)]
 struct Extent {
     members: usize,
     count: usize,

@@ -39,7 +39,7 @@ fn ones_of_three(x: u64, y: u64, z: u64) -> u64
 }
 
 // What the large groups tell apart; hopeless where that was given up, since the best so far cannot be passed any more.
-#[derive(Drop)]
+#[derive(Clone, Copy)]
 struct Large {
     gain: u64,
     hopeless: bool,

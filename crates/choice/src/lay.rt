@@ -23,7 +23,7 @@ const PAIRED_MOST: u16 = 11;
 pub(crate) const MAX_BLOCKS: usize = 88;
 
 // How many blocks hold large groups, and how many items there are, with the 64 of each of these blocks.
-#[derive(Drop)]
+#[derive(Clone, Copy)]
 pub(crate) struct Laid {
     pub whole: usize,
     pub items: usize,

@@ -4,6 +4,8 @@
 // turns each block on its side where it stands (draw). Each input then has a column in each block, with a bit for each item. A candidate
 // is the XOR of two columns: its ones, counted 64 items at a time, say how many pairs it tells apart (judge). The search keeps the best of
 // the candidates (search), and the groups are split by it.
+#![tactic(auto)]
+
 ghost use Rattle.std.specs.Prelude.{◌≡◌};
 ghost use Rattle.choice.specs.Choosing.{chosen_in};
 
@@ -18,7 +20,7 @@ mod rule;
 mod search;
 
 // The variables in their places, all marked row; how many there are; and whether no two vectors agree on all of them.
-#[derive(Drop)]
+#[derive(Clone, Copy)]
 pub struct Chosen {
     pub variables: [Variable; MAX_VARIABLES],
     pub p: usize,

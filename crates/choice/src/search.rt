@@ -14,7 +14,7 @@ use crate::judge;
 use vectors::Kind;
 
 // Two inputs, and the pairs of members that their XOR tells apart.
-#[derive(Drop)]
+#[derive(Clone, Copy)]
 pub(crate) struct Best {
     i: usize,
     j: usize,

@@ -1,4 +1,6 @@
 // The program: its words and standard input read whole, and what they ask for written to standard output.
+#![tactic(auto)]
+
 ghost use Rattle.std.specs.Prelude.{◌≤◌, ◌≡◌, length, take};
 ghost use Rattle.io.specs.Counts.{IsPrefixLen};
 ghost use Rattle.words.specs.Words.{page_size, words_of};
@@ -48,7 +50,7 @@ pub fn answer(given: &[u8], text: &[u8]) {
 // ---- what is read
 
 // How many bytes were read, and whether nothing failed.
-#[derive(Drop)]
+#[derive(Clone, Copy)]
 struct Reading {
     count: usize,
     good: bool,

@@ -1,5 +1,7 @@
 // Lookup and recovery, run and compared: every key of the sample unit, then units that no build leaves, with each cause of refusals 6, 14 and 15;
 // and such a unit printed.
+#![tactic(auto)]
+
 use libc::STDOUT_FILENO;
 use unit::{Found, Mark, Record, Recovered};
 use vectors::{Kind, Part, Variable};

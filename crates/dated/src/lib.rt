@@ -1,4 +1,6 @@
 // A profile key as it is written: five decimal numbers parted by commas.
+#![tactic(auto)]
+
 ghost use Rattle.std.specs.Prelude.{◌≡◌, length};
 ghost use Rattle.dated.specs.Dated as spec;
 ghost use Rattle.dated.specs.Dated.{exchanged, spaced, dated_of};
@@ -9,7 +11,7 @@ use profiles::Key;
 const MAX_LINE: usize = 128;
 
 // The word of a key as it was read; wide where a field is over its width, and then the word is 0.
-#[derive(Drop)]
+#[derive(Clone, Copy)]
 pub struct Dated {
     pub good: bool,
     pub wide: bool,

@@ -1,4 +1,6 @@
 // The profiles of keys for C and Rust: two functions over slices and the records of crate `flat`.
+#![tactic(auto)]
+
 ghost use Rattle.std.specs.Prelude.{◌≡◌, map, ◌<◌};
 ghost use Rattle.record.specs.Tables.{lent};
 ghost use Rattle.bridge.specs.Calls.{left};

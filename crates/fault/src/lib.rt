@@ -1,4 +1,6 @@
 // A text read byte by byte, up to the first place where it stops being a list.
+#![tactic(auto)]
+
 ghost use Rattle.std.specs.Prelude.{◌≡◌, ◌≤◌};
 ghost use Rattle.input.specs.Input.{max_text};
 ghost use Rattle.fault.specs.Fault as spec;
@@ -26,7 +28,7 @@ const MAX_NUMBERS: usize = 3 + MAX_LISTED;
 const FIRST_COLUMN: usize = 1;
 
 // What was read: how many bytes, the place of the next one, how many numbers have begun, the last byte, and the value of the number that it stands in.
-#[derive(Drop)]
+#[derive(Clone, Copy)]
 struct State {
     at: usize,
     line: usize,
@@ -37,7 +39,7 @@ struct State {
 }
 
 // What is at fault, and where; cause 0 where nothing is.
-#[derive(Drop)]
+#[derive(Clone, Copy)]
 pub struct Fault {
     pub cause: u8,
     pub line: usize,

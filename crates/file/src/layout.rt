@@ -54,7 +54,7 @@ pub(crate) fn blocks_for(per: usize, words: usize) -> usize
 }
 
 // The numbers of the first blocks of G and AUX, and of the block past the last, with so many words of H, G and AUX.
-#[derive(Drop)]
+#[derive(Clone, Copy)]
 pub struct Starts {
     pub g: usize,
     pub aux: usize,

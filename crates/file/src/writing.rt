@@ -14,7 +14,7 @@ use block::{Opening, SIZE, WORDS16, WORDS64};
 use record::Record;
 use vectors::{Kind, MAX_VARIABLES, Variable};
 
-#[derive(Drop)]
+#[derive(Clone, Copy)]
 struct Pair {
     first: u8,
     second: u8,

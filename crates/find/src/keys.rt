@@ -8,7 +8,7 @@ use print::MAX_BYTES;
 const MAX_KEY: u64 = 18446744073709551615;
 
 // A key's value; 0 where it is not good.
-#[derive(Drop)]
+#[derive(Clone, Copy)]
 pub(crate) struct Key {
     pub(crate) good: bool,
     pub(crate) value: u64,
@@ -117,7 +117,7 @@ pub fn line_length(text: &[u8]) -> usize
 }
 
 // How many keys were read, and whether all of them are good.
-#[derive(Drop)]
+#[derive(Clone, Copy)]
 pub(crate) struct Count {
     pub(crate) good: bool,
     pub(crate) count: usize,

@@ -1,4 +1,6 @@
 // Keys found in a unit, printed: behind each key its number, 0 where it is not registered.
+#![tactic(auto)]
+
 ghost use Rattle.std.specs.Prelude.{◌≡◌, ◌≤◌, length};
 ghost use Rattle.record.specs.Tables.{lent};
 ghost use Rattle.lookup.specs.Lookup.{lookup_of};
@@ -44,7 +46,7 @@ fn widen(narrow: &[u16], words: &mut [u64])
 }
 
 // The keys of a text: whether it is good, how many there are, and a word for each, 0 past them. There are none where it is not good.
-#[derive(Drop)]
+#[derive(Clone, Copy)]
 pub struct Given {
     pub good: bool,
     pub count: usize,

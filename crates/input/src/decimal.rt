@@ -8,7 +8,7 @@ ghost use Rattle.input.specs.Inner.Number.{number_at, ended_at};
 pub const MAX_NUMBER: u64 = 18446744073709551615;
 
 // A number's value, and the place after its last digit. Of what is no number both are 0.
-#[derive(Drop)]
+#[derive(Clone, Copy)]
 pub(crate) struct Number {
     pub(crate) good: bool,
     pub(crate) value: u64,

@@ -1,4 +1,6 @@
 // The program's input: a text of decimal numbers, read into a record and a lent slice.
+#![tactic(auto)]
+
 ghost use Rattle.std.specs.Prelude.{◌≡◌, true, map, ◌+◌, ◌≤◌, length, drop};
 ghost use Rattle.input.specs.Fields.{fields};
 ghost use Rattle.input.specs.Opens.{opens as Opens·opens};
@@ -18,7 +20,7 @@ pub const MAX_TEXT: usize = 65536;
 pub const MAX_LISTED: usize = 1024;
 
 // What a text says. Of a text that is not good every number is 0.
-#[derive(Drop)]
+#[derive(Clone, Copy)]
 pub struct Input {
     pub good: bool,
     pub n: usize,

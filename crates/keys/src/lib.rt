@@ -1,4 +1,6 @@
 // A list of profile keys packed: lines of five numbers in, the file of their unit out.
+#![tactic(auto)]
+
 ghost use Rattle.std.specs.Prelude.{◌≡◌, ◌||◌, ◌∷◌, ◌+◌, ◌≤◌, length};
 ghost use Rattle.print.specs.Line.{newline};
 ghost use Rattle.input.specs.Input.{max_text, max_listed};
@@ -14,7 +16,7 @@ use vectors::{MAX_CELLS, MAX_ROWS};
 const KEY_BITS: usize = 56;
 
 // How many keys were read, whether all lines are keys, and whether a field is over its width.
-#[derive(Drop)]
+#[derive(Clone, Copy)]
 struct Said {
     good: bool,
     wide: bool,
@@ -142,7 +144,7 @@ fn pack_text(degree: usize, cells: usize, text: &[u8], out: &mut [u8]) -> usize
 // ---- the words of the call
 
 // Degree and cells as the words ask for them; both 0 where they are not good.
-#[derive(Drop)]
+#[derive(Clone, Copy)]
 struct Asked {
     good: bool,
     degree: usize,

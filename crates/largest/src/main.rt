@@ -1,4 +1,6 @@
 // The program on the largest list: 1,023 vectors of 64 bits, degree 2, 8,192 cells. Its output is compared.
+#![tactic(auto)]
+
 fn main() {
     console::run();
 }

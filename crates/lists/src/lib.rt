@@ -1,4 +1,6 @@
 // Lists of numbers: definitions and laws that the other crates share, and words cleared.
+#![tactic(auto)]
+
 ghost use Rattle.std.specs.Prelude.{◌≡◌, min, length, replicate};
 
 pub fn clear16(words: &mut [u16])

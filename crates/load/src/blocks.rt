@@ -32,7 +32,7 @@ pub(crate) fn right_checks(file: &[u8]) -> bool
 }
 
 // The blocks of a table: their kind, the first number and the one past the last, and the bytes of its words.
-#[derive(Drop)]
+#[derive(Clone, Copy)]
 struct Part {
     kind: u8,
     first: usize,

@@ -1,4 +1,6 @@
 // The file of a unit read: every block tested, and then the record and the tables.
+#![tactic(auto)]
+
 ghost use Rattle.std.specs.Prelude.{◌≡◌};
 ghost use Rattle.record.specs.Record.{blank_record};
 ghost use Rattle.record.specs.Tables.{lent};
@@ -13,7 +15,7 @@ mod head;
 mod tables;
 
 // How a call of `read` ends; the record is blank beside a refusal.
-#[derive(Drop)]
+#[derive(Clone, Copy)]
 pub struct Loaded {
     pub refusal: u8,
     pub place: usize,

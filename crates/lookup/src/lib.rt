@@ -1,5 +1,7 @@
 // The index of a key. One pass goes over the variables: it tests each and takes its value, and the values make one number, with the row in
 // its low n1 bits and the column above. The row is compared first, and the kept inputs are packed only where it agrees.
+#![tactic(auto)]
+
 ghost use Rattle.std.specs.Prelude.{◌≡◌, false, ◌%◌, ◌^◌, ◌≤◌, ◌<◌, length, take};
 ghost use Rattle.vectors.specs.Bits.{place_of};
 ghost use Rattle.vectors.specs.Bounds.{max_inputs, max_variables};
@@ -15,7 +17,7 @@ use record::Record;
 use vectors::{Kind, MAX_VARIABLES, Variable};
 
 // The refusal's number and its place, 0 and 0 where the call is accepted; the index, 0 where the key is not registered.
-#[derive(Drop)]
+#[derive(Clone, Copy)]
 pub struct Found {
     pub refusal: u8,
     pub place: usize,
@@ -43,7 +45,7 @@ fn with_refusal(refusal: u8) -> Found
 }
 
 // Whether a variable is faulty; if none is, the values of the variables as a number, the first as lowest bit.
-#[derive(Drop)]
+#[derive(Clone, Copy)]
 pub(crate) struct Values {
     pub faulty: bool,
     pub number: u64,

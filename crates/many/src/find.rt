@@ -17,7 +17,7 @@ use record::Record;
 use vectors::MAX_INPUTS;
 
 // What is taken from a unit once: the last key of n bits, how many bits the column has, the masks of a column and of a row, L and k.
-#[derive(Drop)]
+#[derive(Clone, Copy)]
 pub(crate) struct Frame {
     pub last: u64,
     pub shift: u64,

@@ -1,4 +1,6 @@
 // Many keys looked up in one call.
+#![tactic(auto)]
+
 ghost use Rattle.std.specs.Prelude.{◌≡◌};
 ghost use Rattle.record.specs.Tables.{lent};
 ghost use Rattle.lookup.specs.Lookup.{lookup_of};
@@ -12,7 +14,7 @@ mod images;
 mod tables;
 
 // The refusal of the first key that is refused, and the key's number from 1; 0 and 0 where none is.
-#[derive(Drop)]
+#[derive(Clone, Copy)]
 pub struct Many {
     pub refusal: u8,
     pub place: usize,

@@ -1,4 +1,6 @@
 // A unit printed, a refusal printed, numbers in lines, numbers behind lines, a sentence with numbers in it, and a fixed text.
+#![tactic(auto)]
+
 mod decimal;
 mod form;
 mod line;

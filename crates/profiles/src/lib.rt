@@ -1,5 +1,7 @@
 // Dated keys for the separation engine. A key has five fields and no bits: the packing stands in `keys` and nowhere else. A unit is built from a
 // list of keys, and a key gives its profile's bytes out of the brand owner's slab or, where the brand's unit does not know it, the house's.
+#![tactic(auto)]
+
 use unit::Record;
 
 mod keys;
@@ -9,7 +11,7 @@ pub use keys::{build, key_of, word_of};
 pub use places::{ask, find, profile};
 
 // A profile key. A field can be over its width: press has 8 bits, ink 12, substrate 12, screen 8, and the day, counted from 1 January 2000, 16.
-#[derive(Drop)]
+#[derive(Clone, Copy)]
 pub struct Key {
     pub press: u32,
     pub ink: u32,
@@ -19,21 +21,21 @@ pub struct Key {
 }
 
 // The word of a key; 0, and not good, where a field is over its width.
-#[derive(Drop)]
+#[derive(Clone, Copy)]
 pub struct Word {
     pub good: bool,
     pub word: u64,
 }
 
 // Whose slab.
-#[derive(Drop)]
+#[derive(Clone, Copy)]
 pub enum Whose {
     House,
     Brand,
 }
 
 // A slab of profiles that are equally long: the record of its unit, the bytes of one profile, the bytes of the slab.
-#[derive(Drop)]
+#[derive(Clone, Copy)]
 pub struct Slab {
     pub unit: Record,
     pub size: usize,
@@ -41,7 +43,7 @@ pub struct Slab {
 }
 
 // What a slab's length is judged by: the keys of its unit, the bytes of one profile, the bytes of the slab.
-#[derive(Drop)]
+#[derive(Clone, Copy)]
 pub struct Room {
     pub keys: usize,
     pub size: usize,
@@ -49,7 +51,7 @@ pub struct Room {
 }
 
 // What is asked of the units: a refusal, 30 or 31, or the word of the key.
-#[derive(Drop)]
+#[derive(Clone, Copy)]
 pub struct Asked {
     pub refusal: u8,
     pub word: u64,
@@ -57,7 +59,7 @@ pub struct Asked {
 
 // Where a key's profile is. The refusal's number and its place, 0 and 0 where the call is accepted; whose slab, and the number of the profile there
 // from 1. The number is 0, of the house, for an unknown key and beside a refusal.
-#[derive(Drop)]
+#[derive(Clone, Copy)]
 pub struct Held {
     pub refusal: u8,
     pub place: usize,

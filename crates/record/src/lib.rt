@@ -1,4 +1,6 @@
 // The record of a unit, whether record and tables are well formed, and what a build or a reader works out for a record.
+#![tactic(auto)]
+
 ghost use Rattle.std.specs.Prelude.{◌≡◌, ◌-◌, ◌^◌, ◌≤◌, take};
 ghost use Rattle.vectors.specs.Bounds.{max_inputs};
 ghost use Rattle.vectors.specs.Variable.{kinds_of};
@@ -11,14 +13,14 @@ ghost use Rattle.record.specs.Inner.Parts.{part_at};
 use vectors::{MAX_CELLS, MAX_INPUTS, MAX_VARIABLES, MAX_VECTORS, Part, Variable};
 
 // Whether a build left the unit, or vectors were added to it since.
-#[derive(Drop)]
+#[derive(Clone, Copy)]
 pub enum Mark {
     Built,
     Amended,
 }
 
 // What a build leaves beside the tables; cells is L. The part marks in it are set from n1, and nothing reads them.
-#[derive(Drop)]
+#[derive(Clone, Copy)]
 pub struct Record {
     pub n: usize,
     pub p: usize,

@@ -1,5 +1,7 @@
 // The vector of an index: its cell is looked for in G, and its row, column and kept inputs fix it. Whether every index has one, and all of them: in one
 // pass over G and one over AUX.
+#![tactic(auto)]
+
 ghost use Rattle.std.specs.Prelude.{◌≡◌, true, List, ℕ, ◌^◌, ◌≤◌, length, get_or};
 ghost use Rattle.vectors.specs.Bounds.{max_cells, max_words};
 ghost use Rattle.record.specs.Tables.{lent};
@@ -16,7 +18,7 @@ use span::Found;
 use vectors::MAX_WORDS;
 
 // The refusal's number and its place, 0 and 0 where the call is accepted; the vector, 0 beside a refusal.
-#[derive(Drop)]
+#[derive(Clone, Copy)]
 pub struct Recovered {
     pub refusal: u8,
     pub place: usize,

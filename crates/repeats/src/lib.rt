@@ -1,4 +1,6 @@
 // Words that repeat, found by chained hashing: each slot has the latest word in it, and each word the one before it in its slot.
+#![tactic(auto)]
+
 ghost use Rattle.std.specs.Prelude.{◌≡◌, ◌≤◌, ◌<◌, length};
 ghost use Rattle.vectors.specs.Bounds.{max_vectors};
 ghost use Rattle.repeats.specs.Repeats.{repeated_in};

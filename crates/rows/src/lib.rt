@@ -1,4 +1,6 @@
 // Row shift: the definitions, the laws of demand 3, and the placing in the memory of the tables.
+#![tactic(auto)]
+
 ghost use Rattle.std.specs.Prelude.{◌≡◌, drop};
 ghost use Rattle.rows.specs.Answer as spec;
 ghost use Rattle.rows.specs.Answer.{left, placed};
@@ -15,7 +17,7 @@ mod sweep;
 const OWNER: u16 = 1 << 15;
 
 // First fit of a row: the displacement found; or none, after so many tried, and the least number of cells with which there is one.
-#[derive(Drop)]
+#[derive(Clone, Copy)]
 pub enum Fit {
     At(usize),
     None(usize, usize),
@@ -23,7 +25,7 @@ pub enum Fit {
 
 // Whether all rows are placed; or the row that has no displacement, how many were tried, and the least number of cells with which it would
 // have one after the same earlier rows; or the row in hand when the tries exceed the allowance; or what was lent cannot be placed.
-#[derive(Drop)]
+#[derive(Clone, Copy)]
 pub enum End {
     All,
     NoFit(usize, usize, usize),
@@ -32,7 +34,7 @@ pub enum End {
 }
 
 // How the placing ended, and the sum of the displacements and one each of the rows placed, 0 where the allowance is exceeded.
-#[derive(Drop)]
+#[derive(Clone, Copy)]
 pub struct Placed {
     pub end: End,
     pub tries: u64,

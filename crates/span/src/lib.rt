@@ -1,5 +1,7 @@
 // XOR spans of variables: dependence, the kept inputs, and the vector that a word and a column fix. Each function takes the first p of the
 // variables, all 24 where p is more; n above 64 counts as 64, and a position past n as no input.
+#![tactic(auto)]
+
 ghost use Rattle.std.specs.Prelude.{◌≡◌};
 ghost use Rattle.span.specs.Within.{inputs_in, kinds_within};
 ghost use Rattle.span.specs.Span.{first_dependent, kept};
@@ -9,7 +11,7 @@ mod tags;
 
 use vectors::{MAX_INPUTS, MAX_VARIABLES, Variable};
 
-#[derive(Drop)]
+#[derive(Clone, Copy)]
 pub enum Found {
     Vector(u64),
     Nothing,

@@ -24,7 +24,7 @@ fn node(n: usize, i: u8) -> usize
     if n < x { 0 } else { x }
 }
 
-#[derive(Drop)]
+#[derive(Clone, Copy)]
 struct Edge {
     earlier: usize,
     later: usize,
@@ -97,7 +97,7 @@ fn noted(first: usize, inside: bool, i: usize) -> usize
     if first == 0 { i } else { first }
 }
 
-#[derive(Drop)]
+#[derive(Clone, Copy)]
 pub(crate) struct Walk {
     pub first: usize,
     pub tags: [u8; NODES],
@@ -135,7 +135,7 @@ pub(crate) fn by_variables(
     Walk { first, tags }
 }
 
-#[derive(Drop)]
+#[derive(Clone, Copy)]
 pub(crate) struct Grounded {
     pub kept: u64,
     pub tags: [u8; NODES],

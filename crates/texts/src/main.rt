@@ -1,5 +1,6 @@
 // Runs the program on texts: each cause of `input`, then a refusal, a unit with no variables, and zeros in front; with other words; and
 // with `why`, on each cause and each refusal that a list can get. The output is compared.
+#![tactic(auto)]
 
 // Without a word.
 fn list(text: &[u8]) {

@@ -1,4 +1,6 @@
 // A block of 64 words turned on its side, in six stages of 32 swaps.
+#![tactic(auto)]
+
 ghost use Rattle.std.specs.Prelude.{◌≡◌, ◌+◌, ◌*◌, ◌≤◌, ◌<◌, length};
 ghost use Rattle.transpose.specs.Turn.{turned_in};
 ghost use Rattle.transpose.specs.Stage.{Distance, Exchanged, swapped, swapped_words};

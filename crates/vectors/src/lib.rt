@@ -1,4 +1,6 @@
 // The bounds, the variables of an index generation unit, and what variables make of a word: masks, values, numbers, the comparison word.
+#![tactic(auto)]
+
 ghost use Rattle.std.specs.Prelude.{◌≡◌, ◌%◌, ◌^◌, take, replicate, nat_le};
 ghost use Rattle.vectors.specs.Bits.{place_of};
 ghost use Rattle.vectors.specs.Bounds as bounds;
@@ -25,20 +27,20 @@ pub const MAX_ROWS: usize = 1 << MAX_SIDE;
 pub const MAX_WORDS: usize = MAX_VECTORS + 1;
 
 // One input, or the XOR of two; inputs are counted from 1.
-#[derive(Drop)]
+#[derive(Clone, Copy)]
 pub enum Kind {
     One(u8),
     Two(u8, u8),
 }
 
 // Whether a variable counts towards the row number or the column number.
-#[derive(Drop)]
+#[derive(Clone, Copy)]
 pub enum Part {
     Row,
     Column,
 }
 
-#[derive(Drop)]
+#[derive(Clone, Copy)]
 pub struct Variable {
     pub kind: Kind,
     pub part: Part,

@@ -1,4 +1,6 @@
 // Why a text is not taken: where it stops being a list, or what its build refuses.
+#![tactic(auto)]
+
 ghost use Rattle.std.specs.Prelude.{◌≡◌};
 ghost use Rattle.print.specs.Print.{printed, fitted};
 ghost use Rattle.print.specs.Sentence.{sentence};

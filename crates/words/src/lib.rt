@@ -1,4 +1,6 @@
 // What the program writes for the words of its call and what it reads.
+#![tactic(auto)]
+
 ghost use Rattle.std.specs.Prelude.{◌≡◌, true, false};
 ghost use Rattle.record.specs.Tables.{lent};
 ghost use Rattle.print.specs.Print.{printed, fitted};
