@@ -20,7 +20,7 @@ use Rattle.span.proofs.Labels.Edges.{labels_on, length_nodes}
 -- ---- the labels of tags
 
 pub half_at : (c : List ℕ) (u : ℕ) → get_or (map half c) u 0 ≡ get_or c u 0 / 2
-half_at c u = ListN.get_d_map half c u 0
+half_at c u = ListN.get_or-map half c u 0
 
 -- what turns the tags of x's label to that of y
 turn_half : (x y v : ℕ) → v < 2 → bit_xor (bit_xor x y) v / 2 ≡ bit_xor (x / 2) (y / 2)

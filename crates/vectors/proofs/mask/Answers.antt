@@ -11,6 +11,5 @@ returns-in-One c = c.place.ensures ∙ ap (λ (k : Kind). mask_of k % 2 ^ max_in
 
 pub returns-in-Two : goal.returns-in-Two
 returns-in-Two c =
-    let k = c.kind-in-Two-1.given.0 in
-    ap₂ bit_xor c.place-in-Two.ensures c.place-in-Two-2.ensures ∙ sym (xor_mod (place_of k.0) (place_of k.1.0) max_inputs)
+    ap₂ bit_xor c.place-in-Two.ensures c.place-in-Two-2.ensures ∙ sym (xor_mod (place_of c.in-Two.i) (place_of c.in-Two.j) max_inputs)
     ∙ ap (λ (k : Kind). mask_of k % 2 ^ max_inputs) (sym c.in-Two.is)
