@@ -17,7 +17,7 @@ import sys
 WORD = re.compile(r"--[^\n]*|\"(?:[^\"\\]|\\.)*\"|«[^»]*»|[^\s(){}.;,@\"«»\[\]\\]+|\.|[(){};,@\[\]\\]")
 DECLARED = re.compile(r"(?m)^(?:(?:pub|abbrev|unfoldable|opaque) +)*([^\s:(){}]+) +:(?: |$)")
 USE = re.compile(r"(?m)^(?:ghost )?use ([^\s{;]+?)(?:\.\{([^}]*)\})?(?: as ([^\s;]+))?;?$")
-FIELD = re.compile(r"^ +(?:pub )?([^\s:(){}|]+) : ")
+FIELD = re.compile(r"^ +(?:(?:pub|abbrev|unfoldable) )*([^\s:(){}|]+) : ")
 # Names that would fall together with another name in scope, or say something else.
 SPECIAL = {
     "inBounds": "is_in_bounds",
@@ -37,7 +37,7 @@ LOCAL = {
     "crates/unit/proofs/Demand1/Calls.antt": {"first_cell": "first_cell_as"},
     "crates/choice/proofs/Choice/Loops.antt": {"best_of": "best_of_lem"},
 }
-MADE = {"Goals", "Given", "Tie", "Lts", "Statement", "Kinds", "Reads", "Code", "Met", "Layout"}
+MADE = {"Goals", "Tie", "Lts", "Statement", "Kinds", "Reads", "Code", "Met"}
 
 
 def humped(name):
@@ -71,12 +71,13 @@ class Tree:
         for it in DECLARED.finditer(text):
             if not text[it.start() :].startswith(" "):
                 self.declared.add(it.group(1))
-        inside = False
+        # In the proof of a function a field may be a step's: there only the fields of records count.
+        inside = not text.count(".Tie")
         for line in text.split("\n"):
-            if re.match(r"(?:pub )?record ", line):
+            if re.match(r" *(?:pub )?record ", line):
                 inside = True
             elif line and not line.startswith(" "):
-                inside = False
+                inside = not text.count(".Tie")
             found = FIELD.match(line)
             if inside and found:
                 self.fields.add(found.group(1))

@@ -46,8 +46,8 @@ pub record Standing (u : Record) (t : Tables) (vs : List ℕ) : Type 0 where
   pub fits : WordsFit u t
 
 pub made_stands : {n : ℕ} {vs : List ℕ} {u : Record} {t : Tables} → Steps n vs u t → Standing u t vs
-made_stands {n} (Made.by-rule degree cells allowance vs t z) = record { holds = chosen_holds n degree cells allowance vs t z; fits = chosen_fits n degree cells allowance vs t z }
-made_stands {n} (Made.by-caller variables p n1 cells allowance vs t slots z) =
+made_stands {n} (Made.by_rule degree cells allowance vs t z) = record { holds = chosen_holds n degree cells allowance vs t z; fits = chosen_fits n degree cells allowance vs t z }
+made_stands {n} (Made.by_caller variables p n1 cells allowance vs t slots z) =
     record { holds = given_holds n variables p n1 cells allowance vs t slots z; fits = given_fits n variables p n1 cells allowance vs t slots z }
 made_stands (Made.added m x z) =
     let s = made_stands m in
@@ -62,8 +62,8 @@ made_holds m = (made_stands m).holds
 -- its record has the list's width
 pub made_width : {n : ℕ} {vs : List ℕ} {u : Record} {t : Tables} → Steps n vs u t → u.n ≡ n
 unfolding record_of
-made_width {n} (Made.by-rule degree cells allowance vs t z) = chosen_width n degree cells allowance vs t z
-made_width {n} (Made.by-caller variables p n1 cells allowance vs t slots z) = given_width n variables p n1 cells allowance vs t z
+made_width {n} (Made.by_rule degree cells allowance vs t z) = chosen_width n degree cells allowance vs t z
+made_width {n} (Made.by_caller variables p n1 cells allowance vs t slots z) = given_width n variables p n1 cells allowance vs t z
 made_width (Made.added m x z) = ap (λ (u : Record). u.n) (accepted_record _ _ x z) ∙ made_width m
 made_width (Made.carried m into z) =
     let s = made_stands m in
@@ -87,8 +87,8 @@ holds_excess u t vs H e =
 
 pub made_excess : ExcessMade build_chosen build_given add_of read_of
 unfolding record_of
-made_excess n _ _ _ (Made.by-rule degree cells allowance vs t z) = chosen_excess n degree cells allowance vs t z
-made_excess n _ _ _ (Made.by-caller variables p n1 cells allowance vs t slots z) = given_excess n variables p n1 cells allowance vs t slots z
+made_excess n _ _ _ (Made.by_rule degree cells allowance vs t z) = chosen_excess n degree cells allowance vs t z
+made_excess n _ _ _ (Made.by_caller variables p n1 cells allowance vs t slots z) = given_excess n variables p n1 cells allowance vs t slots z
 made_excess n _ _ _ (Made.added m x z) = holds_excess _ _ _ (add_appends _ _ _ (made_holds m) x z) (rw (accepted_record _ _ x z))
 made_excess n _ _ _ (Made.carried m into z) =
     let s = made_stands m in
@@ -105,6 +105,6 @@ writes_nothing_fails d =
     omega (
       arith,
       ap (λ (f : Found). f.index)
-          ((d 3 _ _ _ (Made.added (Made.by-caller (given (One 1 ∷ One 2 ∷ One 3 ∷ [])) 3 2 6 10 (0 ∷ 1 ∷ 2 ∷ 3 ∷ []) (nines 4 6 6) refl refl) 7 refl)
+          ((d 3 _ _ _ (Made.added (Made.by_caller (given (One 1 ∷ One 2 ∷ One 3 ∷ [])) 3 2 6 10 (0 ∷ 1 ∷ 2 ∷ 3 ∷ []) (nines 4 6 6) refl refl) 7 refl)
           ).lookup_exact refl 7 (omega arith)),
     )

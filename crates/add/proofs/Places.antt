@@ -52,4 +52,4 @@ module _ (u : Record) (t : Tables) (x : ℕ) where
       by (refuses r) = rw r.is refusal_small
       by (goes_in r) = rw r.is (none_small 40)
       by (moves m) = rw m.is (none_small 40)
-      by (sticks s) = rw s.is (record { number_low = omega arith; place_low = row_listed s.passes.is-listed })
+      by (sticks s) = rw s.is (record { number_low = omega arith; place_low = row_listed s.passes.is_listed })

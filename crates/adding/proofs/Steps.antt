@@ -113,7 +113,7 @@ built_stands n degree cells allowance vs t e =
     let o : Outcome = build_chosen n degree cells allowance vs t in
     let l : left_by o ≡ build_call n degree cells allowance vs t = build_left n degree cells allowance vs t in
     let z : o.built.refusal ≡ 0 = no_refusal o.built.refusal o.built.place o.built.needed (ap (λ (m : Left). m.answer) l ∙ e) in
-    subst (StoodBy n vs) l (record { unit = o.built.unit; made = Made.by-rule degree cells allowance vs t z; settled = chosen_settled n degree cells allowance vs t z; words_are = refl })
+    subst (StoodBy n vs) l (record { unit = o.built.unit; made = Made.by_rule degree cells allowance vs t z; settled = chosen_settled n degree cells allowance vs t z; words_are = refl })
 
 given_stands : (n p n1 cells allowance : ℕ) (variables vs : List ℕ) (t : Tables) → length variables ≡ max_variables → (given_call n p n1 cells allowance variables vs t).answer ≡ 0 → StoodBy n vs (given_call n p n1 cells allowance variables vs t)
 given_stands n p n1 cells allowance variables vs t many e =
@@ -122,7 +122,7 @@ given_stands n p n1 cells allowance variables vs t many e =
     let l : left_by o ≡ given_call n p n1 cells allowance variables vs t = given_left n p n1 cells allowance variables given vs t refl in
     let z : o.built.refusal ≡ 0 = no_refusal o.built.refusal o.built.place o.built.needed (ap (λ (m : Left). m.answer) l ∙ e) in
     subst (StoodBy n vs) l
-    (record { unit = o.built.unit; made = Made.by-caller given p n1 cells allowance vs t (length-map variables variable_at ∙ many) z; settled = given_settled n given p n1 cells allowance vs t z; words_are = refl })
+    (record { unit = o.built.unit; made = Made.by_caller given p n1 cells allowance vs t (length-map variables variable_at ∙ many) z; settled = given_settled n given p n1 cells allowance vs t z; words_are = refl })
 
 module _ {n : ℕ} {vs words : List ℕ} {t : Tables} (s : Stood n vs words t) where
   abbrev u : Record

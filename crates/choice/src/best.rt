@@ -3,7 +3,7 @@ ghost use Rattle.std.specs.Prelude.{◌≡◌, ◌*◌, length};
 ghost use Rattle.lists.specs.Cut.{cut};
 ghost use Rattle.choice.specs.Choice.{best_of, candidates};
 ghost use Rattle.choice.specs.Inner.Best.{Searched, score_of};
-ghost use Rattle.choice.specs.Inner.Layout.{maxBlocks};
+ghost use Rattle.choice.specs.Inner.Layout.{max_blocks};
 ghost use Rattle.choice.specs.Inner.Ties.{Ties};
 
 use crate::lay::MAX_BLOCKS;
@@ -21,7 +21,7 @@ pub(crate) fn best(
     items: &mut [u64],
 ) -> Kind
     requires searched { Searched sizes.now words.now n × Ties tied (λ x. x) (cut sizes.now words.now) }
-    requires len { length items.old ≡ 64 * maxBlocks }
+    requires len { length items.old ≡ 64 * max_blocks }
     ensures { result ≡ best_of (score_of sizes.now words.now) (candidates n degree) }
 {
     let most = judge::most(sizes);

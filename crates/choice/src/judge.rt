@@ -6,14 +6,14 @@
 // and any other says only that the candidate is not better.
 ghost use Rattle.std.specs.Prelude.{◌≡◌, ◌+◌, ◌-◌, ◌≤◌, ◌<◌, length};
 ghost use Rattle.std.specs.Int.Count as count;
-ghost use Rattle.choice.specs.Inner.Layout.{maxBlocks};
+ghost use Rattle.choice.specs.Inner.Layout.{max_blocks};
 ghost use Rattle.choice.specs.Inner.Gain.{whole_gain, most_of, pair_gain, Counts};
 ghost use Rattle.vectors.specs.Bounds.{max_inputs};
 ghost use Rattle.choice.specs.Inner.Judged.{max_gain, columns_size, cross_at, tally_at, gain_at, Pairs, Sheet, WholeIs, Judges};
 
 // The XOR of the columns of inputs i and j in block w; input 0 is none.
 fn crossed(columns: &[u64], i: usize, j: usize, w: usize) -> u64
-    requires { (i ≤ max_inputs) × (j ≤ max_inputs) × (w < maxBlocks) × (length columns.now ≡ columns_size) × (0 < j) }
+    requires { (i ≤ max_inputs) × (j ≤ max_inputs) × (w < max_blocks) × (length columns.now ≡ columns_size) × (0 < j) }
     ensures { result ≡ cross_at columns.now i j w }
 {
     let b = columns[64 * w + j - 1];
@@ -63,7 +63,7 @@ pub(crate) fn most(sizes: &[u16]) -> u64
 // Of the large groups: a block's tally is added to its group's, and the group counts where it ends. Most is what all groups have at
 // most; given up where all that is left does not come above beat. As a part of gain, its loop would test i for each block.
 fn whole(columns: &[u64], ends: &[u16], i: usize, j: usize, most: u64, beat: u64) -> Large
-    requires i_le_max_inputs { (i ≤ max_inputs) × (j ≤ max_inputs) × (length ends.now ≤ maxBlocks) × (length columns.now ≡ columns_size) × (0 < j) }
+    requires i_le_max_inputs { (i ≤ max_inputs) × (j ≤ max_inputs) × (length ends.now ≤ max_blocks) × (length columns.now ≡ columns_size) × (0 < j) }
     requires counts { Counts ends.now (tally_at columns.now i j) 0 0 }
     requires j_bound { (whole_gain ends.now (tally_at columns.now i j) 0 0 ≤ max_gain) × (most_of ends.now ≤ most) × (most ≤ max_gain) }
     ensures { WholeIs (whole_gain ends.now (tally_at columns.now i j) 0 0) (most - most_of ends.now) beat result }

@@ -11,7 +11,7 @@ ghost use Rattle.std.specs.Prelude.{◌≡◌, map, ◌+◌, ◌-◌, ◌*◌, �
 ghost use Rattle.std.specs.Int.Bits.{bit_xor};
 ghost use Rattle.std.proofs.lemmas.List.Edits.{sets};
 ghost use Rattle.lists.specs.Cut.{cut};
-ghost use Rattle.choice.specs.Inner.Layout.{pairsOf, wholeItems, maxBlocks};
+ghost use Rattle.choice.specs.Inner.Layout.{pairs_of, whole_items, max_blocks};
 ghost use Rattle.choice.specs.Inner.Gain.{most_of, small_most};
 ghost use Rattle.choice.specs.Inner.Laid.{Grouped, WholeLaid, PairsLaid, LaidOut};
 
@@ -55,8 +55,8 @@ fn xored(x: u64, words: &[u64], out: &mut [u64], at: usize)
 
 // The pairs of a group, from place at on; the place after them.
 fn pairs(group: &[u64], out: &mut [u64], at: usize) -> usize
-    requires { at + length (pairsOf group.now) ≤ length out.old }
-    ensures { (out.new ≡ sets out.old at (pairsOf group.now)) × (result ≡ at + length (pairsOf group.now)) }
+    requires { at + length (pairs_of group.now) ≤ length out.old }
+    ensures { (out.new ≡ sets out.old at (pairs_of group.now)) × (result ≡ at + length (pairs_of group.now)) }
 {
     let mut w = at;
     let mut i = 0;
@@ -72,7 +72,7 @@ fn pairs(group: &[u64], out: &mut [u64], at: usize) -> usize
 // The large groups, each from a new block on, with zeros up to the end of its last; how many blocks they take.
 fn lay_whole(words: &[u64], sizes: &[u16], items: &mut [u64], ends: &mut [u16]) -> usize
     requires grouped { Grouped sizes.now words.now }
-    requires len { (length items.old ≡ 64 * maxBlocks) × (ends.old ≡ replicate maxBlocks 0) }
+    requires len { (length items.old ≡ 64 * max_blocks) × (ends.old ≡ replicate max_blocks 0) }
     ensures { WholeLaid (cut sizes.now words.now) items.new ends.new result }
 {
     let mut whole = 0;
@@ -106,8 +106,8 @@ fn lay_pairs(
     small: u64,
 ) -> usize
     requires grouped { Grouped sizes.now words.now }
-    requires len { (length items.old ≡ 64 * maxBlocks) × (take at items.old ≡ wholeItems (cut sizes.now words.now)) × (at ≡ length (wholeItems (cut sizes.now words.now))) }
-    requires rests_len { (length rests.old ≡ maxBlocks) × (small ≡ small_most (cut sizes.now words.now)) }
+    requires len { (length items.old ≡ 64 * max_blocks) × (take at items.old ≡ whole_items (cut sizes.now words.now)) × (at ≡ length (whole_items (cut sizes.now words.now))) }
+    requires rests_len { (length rests.old ≡ max_blocks) × (small ≡ small_most (cut sizes.now words.now)) }
     ensures { PairsLaid (cut sizes.now words.now) items.new rests.new result }
 {
     let mut left = small;
@@ -145,7 +145,7 @@ pub(crate) fn lay(
     rests: &mut [u64],
 ) -> Laid
     requires grouped { Grouped sizes.now words.now × (most ≡ most_of sizes.now) }
-    requires len { (length items.old ≡ 64 * maxBlocks) × (ends.old ≡ replicate maxBlocks 0) × (length rests.old ≡ maxBlocks) }
+    requires len { (length items.old ≡ 64 * max_blocks) × (ends.old ≡ replicate max_blocks 0) × (length rests.old ≡ max_blocks) }
     ensures { LaidOut (cut sizes.now words.now) items.new ends.new rests.new result }
 {
     let whole = lay_whole(words, sizes, items, ends);

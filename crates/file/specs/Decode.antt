@@ -7,7 +7,7 @@ use Rattle.record.specs.Record.{mark_of, record_of}
 use Rattle.record.specs.Tables.{Tables}
 use Rattle.block.specs.Bytes.{number_at, words_at}
 use Rattle.block.specs.Block.{block_size, payload_at, short_word, long_word, short_words, long_words}
-use Rattle.file.specs.Layout.{nAt, p_at, n1At, kAt, cellsAt, triesAt, variablesAt, markAt}
+use Rattle.file.specs.Layout.{n_at, p_at, n1_at, k_at, cells_at, tries_at, variables_at, mark_at}
 use Rattle.file.specs.File.{blocks_for, rows_in, words_in, h_first, g_first, aux_first}
 
 -- a variable of two bytes
@@ -23,7 +23,7 @@ kinds_from (suc p) at file = kind_of (get_or file at 0) (get_or file (suc at) 0)
 unfoldable pub record_in : List ℕ → Record
 unfolding record_of number_at kinds_from
 record_in file =
-    record_of (mark_of (number_at 1 markAt file)) (number_at 1 nAt file) (number_at 1 n1At file) (number_at 2 kAt file) (kinds_from (number_at 1 p_at file) variablesAt file) (number_at 2 cellsAt file) (number_at 4 triesAt file)
+    record_of (mark_of (number_at 1 mark_at file)) (number_at 1 n_at file) (number_at 1 n1_at file) (number_at 2 k_at file) (kinds_from (number_at 1 p_at file) variables_at file) (number_at 2 cells_at file) (number_at 4 tries_at file)
 
 -- so many words of a table, the first block of them being number `first` of the file; m blocks are looked at
 unfoldable pub table_from : ℕ → ℕ → ℕ → ℕ → ℕ → List ℕ → List ℕ

@@ -10,14 +10,14 @@ use Rattle.lookup.specs.Lookup.{lookup_of}
 use Rattle.recover.specs.Recover.{recover_of}
 use Rattle.build.specs.Build.{Outcome}
 use Rattle.unit.specs.Demand2.{ChosenBuild, GivenBuild}
-use Rattle.file.specs.Layout.{headKind, version, letters}
+use Rattle.file.specs.Layout.{head_kind, version, letters}
 use Rattle.file.specs.File.{rows_in, words_in, file_of}
 use Rattle.file.specs.Decode.{record_in, tables_in}
 use Rattle.file.specs.Read.{Reading}
 
 -- SCOPE 20.1, 20.6: a file's first eight bytes are the opening of block 0, a head, and the four letters
 abbrev pub Begins : List ℕ → Type 0
-Begins file = take 8 file ≡ headKind ∷ version ∷ 0 ∷ 0 ∷ letters
+Begins file = take 8 file ≡ head_kind ∷ version ∷ 0 ∷ 0 ∷ letters
 
 -- ---- what a file says of its unit
 

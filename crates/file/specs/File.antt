@@ -9,7 +9,7 @@ use Rattle.record.specs.Tables.{Tables}
 use Rattle.block.specs.declared.Opening.{Opening}
 use Rattle.block.specs.Bytes.{little_of, words_of}
 use Rattle.block.specs.Block.{padded, block_size, block_of, short_word, long_word, short_words, long_words}
-use Rattle.file.specs.Layout.{headKind, hKind, gKind, auxKind, version, letters}
+use Rattle.file.specs.Layout.{head_kind, h_kind, g_kind, aux_kind, version, letters}
 
 -- SCOPE 20.1: how block number i begins
 abbrev pub opening : ℕ → ℕ → Opening
@@ -42,7 +42,7 @@ head_payload u =
 
 unfoldable pub head_of : Record → List ℕ
 unfolding block_of head_payload
-head_of u = block_of (opening headKind 0) (head_payload u)
+head_of u = block_of (opening head_kind 0) (head_payload u)
 
 -- ---- the tables
 
@@ -98,9 +98,9 @@ unfoldable pub file_with : Record → List ℕ → List ℕ → List ℕ → Lis
 unfolding head_of table_of
 file_with u h g aux =
     head_of u
-    ++ table_of hKind short_word short_words h_first h
-    ++ table_of gKind short_word short_words (g_first u) g
-    ++ table_of auxKind long_word long_words (aux_first u) aux
+    ++ table_of h_kind short_word short_words h_first h
+    ++ table_of g_kind short_word short_words (g_first u) g
+    ++ table_of aux_kind long_word long_words (aux_first u) aux
 
 -- SCOPE 20.4: H, G and AUX in their ranges
 unfoldable pub file_of : Record → Tables → List ℕ

@@ -4,7 +4,7 @@ ghost use Rattle.std.proofs.lemmas.List.Edits.{sets};
 ghost use Rattle.vectors.specs.Variable.{kinds_of};
 ghost use Rattle.record.specs.Tables.{lent};
 ghost use Rattle.block.specs.Block.{block_size, short_word, long_word, short_words, long_words};
-ghost use Rattle.file.specs.Layout.{variablesAt};
+ghost use Rattle.file.specs.Layout.{variables_at};
 ghost use Rattle.file.specs.File.{variable_bytes, variables_bytes, head_of, blocks_for, table_of, rows_in, words_in, g_first, aux_first, size_of, file_with};
 ghost use Rattle.file.specs.Write.{after, write_of};
 
@@ -39,7 +39,7 @@ fn positions(kind: Kind) -> Pair
 // Writes the first p variables into the head.
 fn put_variables(variables: [Variable; MAX_VARIABLES], p: usize, head: &mut [u8])
     requires { length head.old ≡ block_size }
-    ensures { head.new ≡ sets head.old variablesAt (variables_bytes (kinds_of (take p variables))) }
+    ensures { head.new ≡ sets head.old variables_at (variables_bytes (kinds_of (take p variables))) }
 {
     let last = lists::least(p, MAX_VARIABLES);
     let mut i = 0;

@@ -11,7 +11,7 @@ use borrow.Author.Tests.{eq-eqb, ne_eqb}
 use Rattle.lists.proofs.Tests.{and_unit, eqb_iff}
 use Rattle.block.specs.Block.{block_size, same}
 use Rattle.block.specs.Look.{blank_from, laid_out}
-use Rattle.file.specs.Layout.{headKind, letters, variablesAt, markAt, freeAt}
+use Rattle.file.specs.Layout.{head_kind, letters, variables_at, mark_at, free_at}
 use Rattle.file.specs.File.{opening}
 use Rattle.load.specs.Inner.Laid.{has_letters, head_laid}
 
@@ -47,7 +47,7 @@ module _ (file : List ℕ) (long : block_size ≤ length file) where
 
 -- ---- the whole
 
-pub head_told : (p : ℕ) (file : List ℕ) {a b z : Bool} → laid_out (opening headKind 0) freeAt (take block_size file) ≡ a → has_letters file ≡ b → blank_from (variablesAt + 2 * p) (take markAt file) ≡ z
-    → head_laid p file ≡ a && b && z && leb (get_or file markAt 0) 1
+pub head_told : (p : ℕ) (file : List ℕ) {a b z : Bool} → laid_out (opening head_kind 0) free_at (take block_size file) ≡ a → has_letters file ≡ b → blank_from (variables_at + 2 * p) (take mark_at file) ≡ z
+    → head_laid p file ≡ a && b && z && leb (get_or file mark_at 0) 1
 unfolding head_laid
 head_told p file ea eb ez = rw (ea, eb, ez)

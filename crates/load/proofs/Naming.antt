@@ -17,7 +17,7 @@ use Rattle.span.specs.Within.{inputs_in, within, kinds_within}
 use Rattle.record.specs.declared.Mark.{Mark}
 use Rattle.record.specs.Record.{mark_of, variables_of, excess_of}
 use Rattle.block.specs.Bytes.{number_at}
-use Rattle.file.specs.Layout.{nAt, p_at, n1At, kAt, cellsAt, triesAt, variablesAt, markAt}
+use Rattle.file.specs.Layout.{n_at, p_at, n1_at, k_at, cells_at, tries_at, variables_at, mark_at}
 use Rattle.file.specs.Decode.{kind_of, kinds_from}
 use Rattle.load.specs.Inner.Said.{kinds_said, said_in}
 
@@ -34,14 +34,14 @@ kinds_more (suc p) at file =
 pub record Naming (file : List ℕ) (vs : List Variable) (i : ℕ) : Type 0 where
   pub within : i ≤ max_variables
   pub size : length vs ≡ max_variables
-  pub is : kinds_of (take i vs) ≡ kinds_from i variablesAt file
+  pub is : kinds_of (take i vs) ≡ kinds_from i variables_at file
 
 module _ (file : List ℕ) (vs : List Variable) where
   pub naming_none : length vs ≡ max_variables → Naming file vs 0
   unfolding kinds_from
   naming_none n = record { within = omega arith; size = n; is = refl }
 
-  pub naming_more : (i : ℕ) (v : Variable) → i < max_variables → v.kind ≡ kind_of (get_or file (variablesAt + 2 * i) 0) (get_or file (variablesAt + 2 * i + 1) 0)
+  pub naming_more : (i : ℕ) (v : Variable) → i < max_variables → v.kind ≡ kind_of (get_or file (variables_at + 2 * i) 0) (get_or file (variables_at + 2 * i + 1) 0)
       → Naming file vs i → Naming file (set vs i v) (i + 1)
   naming_more i v h e k =
       let t : take (suc i) (set vs i v) ≡ take i vs ++ (v ∷ []) = take-suc-set vs i v (omega (arith, k.size)) in
@@ -49,26 +49,26 @@ module _ (file : List ℕ) (vs : List Variable) where
         within = omega arith;
         size = length-set vs i v ∙ k.size;
         is = rw (add-one i) (ap kinds_of t ∙ map-append (λ (w : Variable). w.kind) (take i vs) (v ∷ [])
-            ∙ ap₂ (λ (ks : List Kind) (x : Kind). ks ++ (x ∷ [])) k.is e ∙ sym (kinds_more i variablesAt file));
+            ∙ ap₂ (λ (ks : List Kind) (x : Kind). ks ++ (x ∷ [])) k.is e ∙ sym (kinds_more i variables_at file));
       }
 
-  pub naming_end : (i : ℕ) → max_variables ≤ i → Naming file vs i → kinds_of vs ≡ kinds_from max_variables variablesAt file
+  pub naming_end : (i : ℕ) → max_variables ≤ i → Naming file vs i → kinds_of vs ≡ kinds_from max_variables variables_at file
   naming_end i h k =
       let e : i ≡ max_variables = omega (arith, k.within) in
-      sym (ap kinds_of (take_all i vs (omega (arith, k.size)))) ∙ k.is ∙ ap (λ (j : ℕ). kinds_from j variablesAt file) e
+      sym (ap kinds_of (take_all i vs (omega (arith, k.size)))) ∙ k.is ∙ ap (λ (j : ℕ). kinds_from j variables_at file) e
 
 -- ---- the record
 
-pub said_made : (file : List ℕ) (vs marks : List Variable) (n p n1 k cells tries mask number : ℕ) (excess : ℤ) (mark : Mark) → kinds_of vs ≡ kinds_from max_variables variablesAt file
-    → n ≡ number_at 1 nAt file → p ≡ number_at 1 p_at file → n1 ≡ number_at 1 n1At file → k ≡ number_at 2 kAt file → cells ≡ number_at 2 cellsAt file → tries ≡ number_at 4 triesAt file
-    → mask ≡ kept (inputs_in n) (kinds_within n p vs) → excess ≡ excess_of p k → marks ≡ variables_of n1 (kinds_of (take p vs)) → number ≡ number_at 1 markAt file → mark ≡ mark_of number
+pub said_made : (file : List ℕ) (vs marks : List Variable) (n p n1 k cells tries mask number : ℕ) (excess : ℤ) (mark : Mark) → kinds_of vs ≡ kinds_from max_variables variables_at file
+    → n ≡ number_at 1 n_at file → p ≡ number_at 1 p_at file → n1 ≡ number_at 1 n1_at file → k ≡ number_at 2 k_at file → cells ≡ number_at 2 cells_at file → tries ≡ number_at 4 tries_at file
+    → mask ≡ kept (inputs_in n) (kinds_within n p vs) → excess ≡ excess_of p k → marks ≡ variables_of n1 (kinds_of (take p vs)) → number ≡ number_at 1 mark_at file → mark ≡ mark_of number
     → record { n = n; p = p; n1 = n1; k = k; cells = cells; kept = mask; tries = tries; excess = excess; variables = marks; mark = mark } ≡ said_in file
 unfolding said_in
 said_made file vs marks n p n1 k cells tries mask number excess mark ks en ep e1 ek ec et em ex ev eb er =
     let q : kinds_of (take p vs) ≡ kinds_said file = map_take (λ (v : Variable). v.kind) p vs ∙ ap₂ take ep ks in
-    let m : mask ≡ kept (inputs_in (number_at 1 nAt file)) (map (within (inputs_in (number_at 1 nAt file))) (kinds_said file)) =
+    let m : mask ≡ kept (inputs_in (number_at 1 n_at file)) (map (within (inputs_in (number_at 1 n_at file))) (kinds_said file)) =
     em ∙ ap₂ (λ (i : ℕ) (l : List Kind). kept (inputs_in i) (map (within (inputs_in i)) l)) en q in
-    let x : excess ≡ excess_of (number_at 1 p_at file) (number_at 2 kAt file) = ex ∙ ap₂ excess_of ep ek in
-    let v : marks ≡ variables_of (number_at 1 n1At file) (kinds_said file) = ev ∙ ap₂ variables_of e1 q in
-    let r : mark ≡ mark_of (number_at 1 markAt file) = er ∙ ap mark_of eb in
+    let x : excess ≡ excess_of (number_at 1 p_at file) (number_at 2 k_at file) = ex ∙ ap₂ excess_of ep ek in
+    let v : marks ≡ variables_of (number_at 1 n1_at file) (kinds_said file) = ev ∙ ap₂ variables_of e1 q in
+    let r : mark ≡ mark_of (number_at 1 mark_at file) = er ∙ ap mark_of eb in
     cc

@@ -3,7 +3,7 @@ ghost use Rattle.std.specs.Prelude.{◌≡◌, ◌≤◌, length};
 ghost use Rattle.vectors.specs.Bounds.{max_variables};
 ghost use Rattle.vectors.specs.Variable.{kinds_of};
 ghost use Rattle.block.specs.Block.{block_size};
-ghost use Rattle.file.specs.Layout.{variablesAt};
+ghost use Rattle.file.specs.Layout.{variables_at};
 ghost use Rattle.file.specs.Decode.{kind_of, kinds_from};
 ghost use Rattle.load.specs.Inner.Said.{said_in};
 
@@ -25,7 +25,7 @@ fn kind_of(first: u8, second: u8) -> Kind
 // The variables of all 24 places, with no regard to p.
 fn variables(file: &[u8]) -> [Variable; MAX_VARIABLES]
     requires { block_size ≤ length file.now }
-    ensures { kinds_of result ≡ kinds_from max_variables variablesAt file.now }
+    ensures { kinds_of result ≡ kinds_from max_variables variables_at file.now }
 {
     let mut v = vectors::blank_variables();
     let mut i = 0;

@@ -48,8 +48,8 @@ module _ (n1 : ℕ) (ks : List Kind) (cells : ℕ) (vs : List ℕ) where
       record {
         order = (placing.P cs h g).state.order;
         falling = placing.falling cs h g;
-        once = placing.placed-once cs h g;
-        only_occupied = λ r m. (omega (arith, placing.placed-in cs h g r m), placing.placed-weighs cs h g r m);
+        once = placing.placed_once cs h g;
+        only_occupied = λ r m. (omega (arith, placing.placed_in cs h g r m), placing.placed_weighs cs h g r m);
         all_occupied = λ r l w. placing.all_placed cs h g e r (omega arith) w;
         smallest = placing.smallest cs h g;
         bounded = rw (filled_blank cells) at (placing.bounded cs h g);

@@ -85,7 +85,7 @@ module _ (u : Record) (t : Tables) (x : ℕ) (H : Holds u t (list_in u t)) (P : 
   -- nor do two vectors have one row and one column
   old_apart : (i j : ℕ) → i < j → j < length vs → row (get_or vs i 0) ≡ row (get_or vs j 0) → column (get_or vs i 0) ≡ column (get_or vs j 0) → ⊥
   old_apart i j l h p q =
-      let e : i ≡ j = listed_cells u t P.is-listed i j (low i (omega arith)) (low j h) (ap₂ (λ (r c : ℕ). get_or t.h r 0 + c) p q) in
+      let e : i ≡ j = listed_cells u t P.is_listed i j (low i (omega arith)) (low j h) (ap₂ (λ (r c : ℕ). get_or t.h r 0 + c) p q) in
       omega arith
 
   distinct : Distinct cares
@@ -110,8 +110,8 @@ module _ (u : Record) (t : Tables) (x : ℕ) (H : Holds u t (list_in u t)) (P : 
   -- the row's own cells are empty
   own_empty : (i : ℕ) → i < length vs → row (get_or vs i 0) ≡ row x → get_or cells (cell_in u t (get_or vs i 0)) 0 ≡ 0
   own_empty i h e =
-      let q : first_one u t (care_at u t x P.is-listed i) ≡ cell_in u t (get_or vs i 0) = omega (arith, first_own u t x P.is-listed i (low i h)) in
-      rw q at (lifted_own u t (row_mates u t x) (take u.cells t.g) _ (mate_in u t x P.is-listed i (low i h) e))
+      let q : first_one u t (care_at u t x P.is_listed i) ≡ cell_in u t (get_or vs i 0) = omega (arith, first_own u t x P.is_listed i (low i h)) in
+      rw q at (lifted_own u t (row_mates u t x) (take u.cells t.g) _ (mate_in u t x P.is_listed i (low i h) e))
 
   -- the others' cells are as they were
   others_stay : (i : ℕ) → i < length vs → (row (get_or vs i 0) ≡ row x → ⊥) → get_or cells (cell_in u t (get_or vs i 0)) 0 ≡ suc i
@@ -121,9 +121,9 @@ module _ (u : Record) (t : Tables) (x : ℕ) (H : Holds u t (list_in u t)) (P : 
     where
       none : (m : Care) → In m (row_mates u t x) → first_one u t m ≡ cell_in u t (get_or vs i 0) → ⊥
       none m k e =
-          let q = mate_is u t x P.is-listed m k in
-          let j : q.at ≡ i = listed_cells u t P.is-listed q.at i q.below (low i h) (omega (arith, mate_cell u t x P.is-listed m q)) in
-          n (ap (λ (a : ℕ). row (get_or vs a 0)) (sym j) ∙ q.in-row)
+          let q = mate_is u t x P.is_listed m k in
+          let j : q.at ≡ i = listed_cells u t P.is_listed q.at i q.below (low i h) (omega (arith, mate_cell u t x P.is_listed m q)) in
+          n (ap (λ (a : ℕ). row (get_or vs a 0)) (sym j) ∙ q.in_row_lem)
 
   -- a cell that is not empty holds the number of a vector of another row, which leads there
   record Elsewhere (cell : ℕ) : Type 0 where

@@ -38,5 +38,5 @@ module _ (u : Record) (t : Tables) (x : â„•) (z : (add_of u t x).built.refusal â
       let p = passes a in
       let s = add_changes_little u t x in
       let long : suc u.k < length (add_of u t x).tables.aux = rw s.one_word.size p.word_fits in
-      rw (ends.accepted-record u t x z)
-      (amended_sound u t (add_of u t x).tables (listed_sound u t p.is-listed) p.few record { h = s.one_row.size; g = cells a; aux = long })
+      rw (ends.accepted_record u t x z)
+      (amended_sound u t (add_of u t x).tables (listed_sound u t p.is_listed) p.few record { h = s.one_row.size; g = cells a; aux = long })

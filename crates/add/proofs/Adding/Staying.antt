@@ -79,7 +79,7 @@ module _ (u : Record) (t : Tables) (x : ℕ) where
 
   module _ (M : Moved u t x) where
     S : Sound u t
-    S = sound_says u t (listed_sound u t M.passes.is-listed)
+    S = sound_says u t (listed_sound u t M.passes.is_listed)
 
     abbrev cells : List ℕ
     cells = lifted_cells u t x
@@ -119,7 +119,7 @@ module _ (u : Record) (t : Tables) (x : ℕ) where
     not_lifted : (i : ℕ) → i < u.cells → (HasCell u t x i → ⊥) → get_or cells i 0 ≡ get_or t.g i 0
     not_lifted i l n =
         lifted_other u t (row_mates u t x) (take u.cells t.g) i
-        (λ c k e. n (c, k, omega (arith, mate_cell u t x M.passes.is-listed c (mate_is u t x M.passes.is-listed c k))))
+        (λ c k e. n (c, k, omega (arith, mate_cell u t x M.passes.is_listed c (mate_is u t x M.passes.is_listed c k))))
         ∙ get_or-take u.cells t.g i 0 l
 
     -- and if it gets it neither, so it stays
@@ -175,7 +175,7 @@ module _ (u : Record) (t : Tables) (vs : List ℕ) (H : Holds u t vs) (x i : ℕ
       let v : ℕ = get_or (list_in u t) m.at 0 in
       let c : cell_in u t v ≡ cell_in u t (get_or vs i 0) = omega (arith, mate_cell u t x L p.0 m, p.2) in
       let j : m.at ≡ i = omega (arith, (listed_entry u t L m.at m.below).holds, (H.lies i h).1, ap (λ (a : ℕ). get_or t.g a 0) c) in
-      n (ap₂ (λ (l : List ℕ) (a : ℕ). row_of u.n1 (kinds_in u) (get_or l a 0)) (sym (holds_list u t vs H)) (sym j) ∙ m.in-row)
+      n (ap₂ (λ (l : List ℕ) (a : ℕ). row_of u.n1 (kinds_in u) (get_or l a 0)) (sym (holds_list u t vs H)) (sym j) ∙ m.in_row_lem)
 
 pub add_others_stay : OthersStay add_of
 add_others_stay u t vs H x i h n =

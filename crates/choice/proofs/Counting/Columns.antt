@@ -13,7 +13,7 @@ use Rattle.vectors.proofs.Bits.Laws.{xor_half, xor_low, input_lt}
 use Rattle.vectors.proofs.Bits.Xor.{Linear, parity, parity_linear, parity_value}
 use Rattle.transpose.specs.Turn.{column}
 use Rattle.choice.specs.Inner.Split.{tally}
-use Rattle.choice.specs.Inner.Layout.{inputColumn}
+use Rattle.choice.specs.Inner.Layout.{input_column}
 
 -- ---- the value of a candidate is linear
 
@@ -41,23 +41,23 @@ ones_digit a b m n g h =
     ones_step (bit_xor (a + 2 * m) (b + 2 * n))
     ∙ ap₂ (λ (r s : ℕ). r + ones s) (xor_low (a + 2 * m) (b + 2 * n) ∙ l) (xor_half (a + 2 * m) (b + 2 * n) ∙ ap₂ bit_xor p q)
 
-column_none : (i : ℕ) → inputColumn i [] ≡ 0
+column_none : (i : ℕ) → input_column i [] ≡ 0
 unfolding column
 column_none zero = refl
 column_none (suc i) = refl
 
-column_more : (i x : ℕ) (xs : List ℕ) → inputColumn i (x ∷ xs) ≡ input x i + 2 * inputColumn i xs
+column_more : (i x : ℕ) (xs : List ℕ) → input_column i (x ∷ xs) ≡ input x i + 2 * input_column i xs
 unfolding column
 column_more zero x xs = refl
 column_more (suc i) x xs = refl
 
-ones_inputs : (i j : ℕ) (xs : List ℕ) → ones (bit_xor (inputColumn i xs) (inputColumn j xs)) ≡ tally (λ x. value_of x (Two i j)) xs
+ones_inputs : (i j : ℕ) (xs : List ℕ) → ones (bit_xor (input_column i xs) (input_column j xs)) ≡ tally (λ x. value_of x (Two i j)) xs
 unfolding tally ones value_of
 ones_inputs i j [] = rw (column_none i, column_none j)
 ones_inputs i j (x ∷ xs) =
     rw (column_more i x xs, column_more j x xs)
-    (ones_digit (input x i) (input x j) (inputColumn i xs) (inputColumn j xs) (input_lt x i) (input_lt x j)
+    (ones_digit (input x i) (input x j) (input_column i xs) (input_column j xs) (input_lt x i) (input_lt x j)
     ∙ ap (λ (n : ℕ). value_of x (Two i j) + n) (ones_inputs i j xs))
 
-pub ones_columns : (k : Kind) (xs : List ℕ) → ones (bit_xor (inputColumn (earlier k) xs) (inputColumn (later k) xs)) ≡ tally (λ x. value_of x k) xs
+pub ones_columns : (k : Kind) (xs : List ℕ) → ones (bit_xor (input_column (earlier k) xs) (input_column (later k) xs)) ≡ tally (λ x. value_of x k) xs
 ones_columns k xs = ones_inputs (earlier k) (later k) xs ∙ ap (λ (f : ℕ → ℕ). tally f xs) (fun_ext (λ x. value_inputs x k))

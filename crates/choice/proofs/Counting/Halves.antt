@@ -11,7 +11,7 @@ use Rattle.lists.specs.Cut.{cut, total}
 use Rattle.choice.specs.Inner.Split.{tally}
 use Rattle.choice.proofs.Choice.Squares.{tally_le, tally_append}
 use Rattle.vectors.proofs.Bits.Xor.{Linear}
-use Rattle.choice.specs.Inner.Layout.{blocksOf, pairsOf, endsOf, pairItems}
+use Rattle.choice.specs.Inner.Layout.{blocks_of, pairs_of, ends_of, pair_items}
 use Rattle.choice.specs.Inner.Gain.{most_of, small_most}
 use Rattle.vectors.specs.Bounds.{max_vectors}
 use Rattle.choice.specs.Inner.Judged.{max_gain}
@@ -40,27 +40,27 @@ cut_most (s ∷ sizes) words h =
     ap₂ (λ (m n : ℕ). m * m / 4 + n) (length-take-le s words (omega arith)) (cut_most sizes (drop s words) (omega (arith, length-drop s words)))
 
 -- the large groups and the small ones
-parts_most : (gs : List (List ℕ)) → most_of (endsOf gs) + small_most gs ≡ most_of (map length gs)
-unfolding most_of endsOf small_most
+parts_most : (gs : List (List ℕ)) → most_of (ends_of gs) + small_most gs ≡ most_of (map length gs)
+unfolding most_of ends_of small_most
 parts_most [] = refl
 parts_most (g ∷ gs) = go (laid g gs) (parts_most gs)
   where
-    go : Small g gs ⊎ Large g gs → most_of (endsOf gs) + small_most gs ≡ most_of (map length gs)
-        → most_of (endsOf (g ∷ gs)) + small_most (g ∷ gs) ≡ length g * length g / 4 + most_of (map length gs)
+    go : Small g gs ⊎ Large g gs → most_of (ends_of gs) + small_most gs ≡ most_of (map length gs)
+        → most_of (ends_of (g ∷ gs)) + small_most (g ∷ gs) ≡ length g * length g / 4 + most_of (map length gs)
     go (inl s) r = rw (s.ends, s.most) (omega arith)
-    go (inr s) r = rw (s.ends, s.most, zeros_most (blocksOf (length g) - 1) (length g ∷ endsOf gs)) (omega arith)
+    go (inr s) r = rw (s.ends, s.most, zeros_most (blocks_of (length g) - 1) (length g ∷ ends_of gs)) (omega arith)
 
-pub halves : (sizes words : List ℕ) → total sizes ≡ length words → most_of (endsOf (cut sizes words)) + small_most (cut sizes words) ≡ most_of sizes
+pub halves : (sizes words : List ℕ) → total sizes ≡ length words → most_of (ends_of (cut sizes words)) + small_most (cut sizes words) ≡ most_of sizes
 halves sizes words h = parts_most (cut sizes words) ∙ cut_most sizes words (omega arith)
 
 -- the pairs told apart in the small groups
-pub pairs_most : (f : ℕ → ℕ) → Linear f → (gs : List (List ℕ)) → tally f (pairItems gs) ≤ small_most gs
-unfolding tally pairItems small_most
+pub pairs_most : (f : ℕ → ℕ) → Linear f → (gs : List (List ℕ)) → tally f (pair_items gs) ≤ small_most gs
+unfolding tally pair_items small_most
 pairs_most f l [] = omega arith
 pairs_most f l (g ∷ gs) = go (laid g gs) (pairs_most f l gs)
   where
-    go : Small g gs ⊎ Large g gs → tally f (pairItems gs) ≤ small_most gs → tally f (pairItems (g ∷ gs)) ≤ small_most (g ∷ gs)
+    go : Small g gs ⊎ Large g gs → tally f (pair_items gs) ≤ small_most gs → tally f (pair_items (g ∷ gs)) ≤ small_most (g ∷ gs)
     go (inl s) r =
         rw (s.pairs, s.most)
-        (omega (arith, tally_append f (pairsOf g) (pairItems gs), pairs_splits f l g, splits_half (tally f g) (length g) (tally_le f l.low g)))
+        (omega (arith, tally_append f (pairs_of g) (pair_items gs), pairs_splits f l g, splits_half (tally f g) (length g) (tally_le f l.low g)))
     go (inr s) r = rw (s.pairs, s.most) r

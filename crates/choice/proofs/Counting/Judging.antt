@@ -13,7 +13,7 @@ use lib.Dec.{eqb}
 use lib.ListN.{length, get_or, drop, drop_of_length-le}
 use lib.Seq.{drop-cons}
 use Rattle.vectors.specs.Bounds.{max_inputs}
-use Rattle.choice.specs.Inner.Layout.{maxBlocks}
+use Rattle.choice.specs.Inner.Layout.{max_blocks}
 use Rattle.choice.proofs.Counting.Splits.{splits_half}
 use Rattle.choice.specs.Inner.Judged.{max_gain, columns_size, column_at, cross_at, tally_at, gain_at, Pairs, Sheet, Judges}
 use Rattle.choice.specs.Inner.Gain.{splits, whole_gain, most_of, pair_gain, Counts}
@@ -233,7 +233,7 @@ module _ (columns rests : List ℕ) (i j : ℕ) where
           omega (arith, s.sum)
 
       -- the columns have a word in block v
-      pub pairing_cross : (v : ℕ) → v < length rests → (i ≤ max_inputs) × (j ≤ max_inputs) × (v < maxBlocks) × (length columns ≡ columns_size) × (0 < j)
+      pub pairing_cross : (v : ℕ) → v < length rests → (i ≤ max_inputs) × (j ≤ max_inputs) × (v < max_blocks) × (length columns ≡ columns_size) × (0 < j)
       pairing_cross v h = let p = s.pairs in (p.first_in, p.second_in, omega (arith, p.fit), p.size, p.second_some)
 
       module _ (h : w < length rests) where

@@ -10,7 +10,7 @@ use lib.ListN.{length}
 use Rattle.choice.specs.Inner.Split.{members, tally}
 use Rattle.choice.proofs.Choice.Squares.{tally_le, tally_append}
 use Rattle.vectors.proofs.Bits.Xor.{Linear}
-use Rattle.choice.specs.Inner.Layout.{pairsOf}
+use Rattle.choice.specs.Inner.Layout.{pairs_of}
 use Rattle.choice.specs.Inner.Gain.{splits, gains}
 
 -- one member with 0 more, or with 1
@@ -57,13 +57,13 @@ module _ (f : ℕ → ℕ) (l : Linear f) where
   row_turned x e (y ∷ g) = omega (arith, l.xor x y, l.low y, row_turned x e g)
 
   -- each two members of different value are a pair with value 1
-  pub pairs_splits : (g : List ℕ) → tally f (pairsOf g) ≡ splits (tally f g) (length g)
-  unfolding pairsOf tally
+  pub pairs_splits : (g : List ℕ) → tally f (pairs_of g) ≡ splits (tally f g) (length g)
+  unfolding pairs_of tally
   pairs_splits [] = refl
-  pairs_splits (x ∷ g) = tally_append f (map (bit_xor x) g) (pairsOf g) ∙ go (f x) refl (l.low x) (pairs_splits g)
+  pairs_splits (x ∷ g) = tally_append f (map (bit_xor x) g) (pairs_of g) ∙ go (f x) refl (l.low x) (pairs_splits g)
     where
-      go : (v : ℕ) → f x ≡ v → v < 2 → tally f (pairsOf g) ≡ splits (tally f g) (length g)
-          → tally f (map (bit_xor x) g) + tally f (pairsOf g) ≡ splits (v + tally f g) (suc (length g))
+      go : (v : ℕ) → f x ≡ v → v < 2 → tally f (pairs_of g) ≡ splits (tally f g) (length g)
+          → tally f (map (bit_xor x) g) + tally f (pairs_of g) ≡ splits (v + tally f g) (suc (length g))
       go zero e h r = rw (zero-add, row_same x e g, r) (splits_zero (tally f g) (length g) (tally_le f l.low g))
       go (suc zero) e h r = rw (one-add, r) (splits_one (tally f g) (tally f (map (bit_xor x) g)) (length g) (row_turned x e g))
       go (suc (suc v)) e h r = absurd (omega arith)

@@ -179,7 +179,7 @@ module _ (b : ℕ → ℕ) (sizes order : List ℕ) where
         let n = next_few in
         let p = parts_length b here in
         let l = walk_length s.walk d h in
-        room_of (part b 0 here) s.holds s.many (omega arith) (omega (arith, s.out-room)) (omega (arith, s.sizes_room))
+        room_of (part b 0 here) s.holds s.many (omega arith) (omega (arith, s.out_room)) (omega (arith, s.sizes_room))
 
     module _ (out₁ out_sizes₁ : List ℕ) (e₁ : Extent) (a : Adds (part b 0 here) out out_sizes e out₁ out_sizes₁ e₁) (o : length out₁ ≡ length out)
         (z : length out_sizes₁ ≡ length out_sizes) where
@@ -201,7 +201,7 @@ module _ (b : ℕ → ℕ) (sizes order : List ℕ) where
           let p = parts_length b here in
           let l = walk_length s.walk d h in
           let q = mid_members in
-          room_of (part b 1 here) (a s.done s.holds) mid_many (omega arith) (omega (arith, s.out-room)) (omega (arith, s.sizes_room))
+          room_of (part b 1 here) (a s.done s.holds) mid_many (omega arith) (omega (arith, s.out_room)) (omega (arith, s.sizes_room))
 
       pub splitting_more : (out₂ out_sizes₂ : List ℕ) (e₂ : Extent) → Adds (part b 1 here) out₁ out_sizes₁ e₁ out₂ out_sizes₂ e₂ → length out₂ ≡ length out₁ → length out_sizes₂ ≡ length out_sizes₁
           → Splitting out₂ out_sizes₂ e₂ (from + get_or sizes g d) (g + 1)
@@ -223,6 +223,6 @@ module _ (b : ℕ → ℕ) (sizes order : List ℕ) where
                 ∙ ap (λ (l : List (List ℕ)). s.done ++ l) (sym (pushed_append (part b 0 here) (pushed (part b 1 here) (refined b r))))
                 ∙ ap (λ (l : List (List ℕ)). s.done ++ refined b l) (sym (walk_cut s.walk d h))
                 ∙ s.same;
-            out_room = omega (arith, s.out-room);
+            out_room = omega (arith, s.out_room);
             sizes_room = omega (arith, s.sizes_room);
           }

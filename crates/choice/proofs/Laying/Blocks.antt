@@ -12,7 +12,7 @@ use borrow.Author.Tests.{ne_eqb}
 use Rattle.choice.specs.Inner.Split.{tally}
 use Rattle.choice.proofs.Choice.Squares.{tally_le, tally_append, tally_few, tally_none}
 use Rattle.vectors.proofs.Bits.Xor.{Linear}
-use Rattle.choice.specs.Inner.Layout.{blocksOf, padded, pairsOf, wholeItems, endsOf, pairItems, items_of, block}
+use Rattle.choice.specs.Inner.Layout.{blocks_of, padded, pairs_of, whole_items, ends_of, pair_items, items_of, block}
 use Rattle.choice.specs.Inner.Gain.{splits, gains, whole_gain, pair_gain, Counts}
 use Rattle.choice.proofs.Counting.Splits.{pairs_splits}
 use Rattle.choice.proofs.Laying.Laid.{Small, Large, laid, padded_length, padded_tally, whole_length}
@@ -63,7 +63,7 @@ module _ (f : ℕ → ℕ) (items : List ℕ) where
   -- a group that is laid whole from block w on: its blocks, and where they end
   module _ (g after : List ℕ) (w : ℕ) (here : drop (64 * w) items ≡ padded g ++ after) (some : 0 < length g) where
     abbrev size : ℕ
-    size = suc (blocksOf (length g) - 1)
+    size = suc (blocks_of (length g) - 1)
 
     size_is : length (padded g) ≡ 64 * size
     size_is = omega (arith, padded_length g)
@@ -79,30 +79,30 @@ module _ (f : ℕ → ℕ) (items : List ℕ) where
 module _ (f : ℕ → ℕ) (l : Linear f) (items rest : List ℕ) where
   -- the large groups from block w on, and the small ones by their pairs
   abbrev Whole : List (List ℕ) → Type 0
-  Whole gs = (w : ℕ) → drop (64 * w) items ≡ wholeItems gs ++ rest
-      → (whole_gain (endsOf gs) (counted f items) w 0 + tally f (pairItems gs) ≡ gains f gs) × Counts (endsOf gs) (counted f items) w 0
+  Whole gs = (w : ℕ) → drop (64 * w) items ≡ whole_items gs ++ rest
+      → (whole_gain (ends_of gs) (counted f items) w 0 + tally f (pair_items gs) ≡ gains f gs) × Counts (ends_of gs) (counted f items) w 0
 
   wholes : (gs : List (List ℕ)) → Whole gs
-  unfolding whole_gain endsOf pairItems tally gains
+  unfolding whole_gain ends_of pair_items tally gains
   wholes [] w here = (refl, tt)
   wholes (g ∷ gs) w here = go (laid g gs) (wholes gs)
     where
       go : Small g gs ⊎ Large g gs → Whole gs
-          → (whole_gain (endsOf (g ∷ gs)) (counted f items) w 0 + tally f (pairItems (g ∷ gs)) ≡ splits (tally f g) (length g) + gains f gs)
-          × Counts (endsOf (g ∷ gs)) (counted f items) w 0
+          → (whole_gain (ends_of (g ∷ gs)) (counted f items) w 0 + tally f (pair_items (g ∷ gs)) ≡ splits (tally f g) (length g) + gains f gs)
+          × Counts (ends_of (g ∷ gs)) (counted f items) w 0
       go (inl s) r =
           let d = r w (here ∙ ap (λ x. x ++ rest) s.whole) in
-          rw (s.ends, s.pairs) (omega (arith, tally_append f (pairsOf g) (pairItems gs), pairs_splits f l g, d.0), d.1)
+          rw (s.ends, s.pairs) (omega (arith, tally_append f (pairs_of g) (pair_items gs), pairs_splits f l g, d.0), d.1)
       go (inr s) r =
-          let after : List ℕ = wholeItems gs ++ rest in
-          let at : drop (64 * w) items ≡ padded g ++ after = here ∙ ap (λ x. x ++ rest) s.whole ∙ append_assoc (padded g) (wholeItems gs) rest in
+          let after : List ℕ = whole_items gs ++ rest in
+          let at : drop (64 * w) items ≡ padded g ++ after = here ∙ ap (λ x. x ++ rest) s.whole ∙ append_assoc (padded g) (whole_items gs) rest in
           let some : 0 < length g = omega (arith, s.many) in
-          let n : ℕ = blocksOf (length g) - 1 in
+          let n : ℕ = blocks_of (length g) - 1 in
           let e : 0 + tally f (stretch (suc n) w items) ≡ tally f g = zero-add _ ∙ group_tally f items g after w at some l.zero in
           let d = r (w + suc n) (group_after f items g after w at some) in
           rw (s.ends, s.pairs) (
-            rw (whole_run f items (length g) (endsOf gs) (λ z. omega arith) n w 0, e) (omega (arith, d.0)),
-            counts_run f items (length g) (endsOf gs) (λ z. omega arith) n w 0 (omega (arith, tally_le f l.low g)) d.1,
+            rw (whole_run f items (length g) (ends_of gs) (λ z. omega arith) n w 0, e) (omega (arith, d.0)),
+            counts_run f items (length g) (ends_of gs) (λ z. omega arith) n w 0 (omega (arith, tally_le f l.low g)) d.1,
           )
 
 -- ---- over the items of all groups, with zeros after them
@@ -111,38 +111,38 @@ module _ (f : ℕ → ℕ) (l : Linear f) (gs : List (List ℕ)) (zeros : ℕ) w
   abbrev items : List ℕ
   items = items_of gs ++ replicate zeros 0
 
-  starts : items ≡ wholeItems gs ++ (pairItems gs ++ replicate zeros 0)
-  starts = append_assoc (wholeItems gs) (pairItems gs) (replicate zeros 0)
+  starts : items ≡ whole_items gs ++ (pair_items gs ++ replicate zeros 0)
+  starts = append_assoc (whole_items gs) (pair_items gs) (replicate zeros 0)
 
-  paired : pair_gain (blocksOf (length (items_of gs)) - length (endsOf gs)) (λ w. tally f (block w (items_of gs ++ replicate zeros 0))) (length (endsOf gs)) ≡ tally f (pairItems gs)
+  paired : pair_gain (blocks_of (length (items_of gs)) - length (ends_of gs)) (λ w. tally f (block w (items_of gs ++ replicate zeros 0))) (length (ends_of gs)) ≡ tally f (pair_items gs)
   paired =
-      let p : List ℕ = pairItems gs in
-      let w : ℕ = length (endsOf gs) in
-      let d : ℕ = blocksOf (length (items_of gs)) - w in
+      let p : List ℕ = pair_items gs in
+      let w : ℕ = length (ends_of gs) in
+      let d : ℕ = blocks_of (length (items_of gs)) - w in
       let here : drop (64 * w) items ≡ p ++ replicate zeros 0 =
-      ap (drop (64 * w)) starts ∙ drop_at (wholeItems gs) (p ++ replicate zeros 0) (64 * w) (whole_length gs) in
-      let e : 64 * d ≡ length p + (64 * d - length p) = omega (arith, length-append (wholeItems gs) p, whole_length gs) in
+      ap (drop (64 * w)) starts ∙ drop_at (whole_items gs) (p ++ replicate zeros 0) (64 * w) (whole_length gs) in
+      let e : 64 * d ≡ length p + (64 * d - length p) = omega (arith, length-append (whole_items gs) p, whole_length gs) in
       pair_run f items d w ∙ ap (λ x. tally f (take (64 * d) x)) here ∙ ap (λ m. tally f (take m (p ++ replicate zeros 0))) e
       ∙ ap (tally f) (take-append-add p (replicate zeros 0) (64 * d - length p)) ∙ tally_append f p (take (64 * d - length p) (replicate zeros 0))
       ∙ ap (λ m. tally f p + m) (tally_few f l.zero (64 * d - length p) zeros) ∙ add-zero (tally f p)
 
   -- what the blocks say is what the candidate gains
-  pub blocks_gain : whole_gain (endsOf gs) (λ w. tally f (block w (items_of gs ++ replicate zeros 0))) 0 0
-      + pair_gain (blocksOf (length (items_of gs)) - length (endsOf gs)) (λ w. tally f (block w (items_of gs ++ replicate zeros 0))) (length (endsOf gs))
+  pub blocks_gain : whole_gain (ends_of gs) (λ w. tally f (block w (items_of gs ++ replicate zeros 0))) 0 0
+      + pair_gain (blocks_of (length (items_of gs)) - length (ends_of gs)) (λ w. tally f (block w (items_of gs ++ replicate zeros 0))) (length (ends_of gs))
       ≡ gains f gs
-  blocks_gain = ap (λ n. whole_gain (endsOf gs) (counted f items) 0 0 + n) paired ∙ (wholes f l items (pairItems gs ++ replicate zeros 0) gs 0 starts).0
+  blocks_gain = ap (λ n. whole_gain (ends_of gs) (counted f items) 0 0 + n) paired ∙ (wholes f l items (pair_items gs ++ replicate zeros 0) gs 0 starts).0
 
   -- and no group's members are counted beyond its size
-  pub blocks_count : Counts (endsOf gs) (λ w. tally f (block w (items_of gs ++ replicate zeros 0))) 0 0
-  blocks_count = (wholes f l items (pairItems gs ++ replicate zeros 0) gs 0 starts).1
+  pub blocks_count : Counts (ends_of gs) (λ w. tally f (block w (items_of gs ++ replicate zeros 0))) 0 0
+  blocks_count = (wholes f l items (pair_items gs ++ replicate zeros 0) gs 0 starts).1
 
   -- the blocks from w on have no more than the items from there on
-  pub pairs_high : (w : ℕ) → w < blocksOf (length (items_of gs))
-      → pair_gain (blocksOf (length (items_of gs)) - w) (λ w. tally f (block w (items_of gs ++ replicate zeros 0))) w ≤ tally f (drop (64 * w) (items_of gs))
+  pub pairs_high : (w : ℕ) → w < blocks_of (length (items_of gs))
+      → pair_gain (blocks_of (length (items_of gs)) - w) (λ w. tally f (block w (items_of gs ++ replicate zeros 0))) w ≤ tally f (drop (64 * w) (items_of gs))
   pairs_high w h =
-      let n : ℕ = 64 * (blocksOf (length (items_of gs)) - w) in
+      let n : ℕ = 64 * (blocks_of (length (items_of gs)) - w) in
       let l' : List ℕ = drop (64 * w) items in
       let in_it : 64 * w ≤ length (items_of gs) = omega arith in
       let e : tally f l' ≡ tally f (drop (64 * w) (items_of gs)) + tally f (replicate zeros 0) =
       ap (tally f) (drop-append-le (64 * w) (items_of gs) (replicate zeros 0) in_it) ∙ tally_append f (drop (64 * w) (items_of gs)) (replicate zeros 0) in
-      omega (arith, pair_run f items (blocksOf (length (items_of gs)) - w) w, tally_append f (take n l') (drop n l'), ap (tally f) (take-append-drop n l'), e, tally_none f l.zero zeros)
+      omega (arith, pair_run f items (blocks_of (length (items_of gs)) - w) w, tally_append f (take n l') (drop n l'), ap (tally f) (take-append-drop n l'), e, tally_none f l.zero zeros)

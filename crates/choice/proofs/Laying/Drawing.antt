@@ -9,7 +9,7 @@ use lib.ListN.{length, get_or, take, drop, length-append, length-drop, get_or-ap
 use lib.Seq.{drop-drop, drop_at, get_or-take, get_or-append-add, length-take-le}
 use Rattle.transpose.specs.Turn.{column, turned, turned_in}
 use Rattle.transpose.proofs.Columns.{turned_length, turned_at, turned_in_lem}
-use Rattle.choice.specs.Inner.Layout.{maxBlocks, block, inputColumn}
+use Rattle.choice.specs.Inner.Layout.{max_blocks, block, input_column}
 use Rattle.vectors.specs.Bounds.{max_inputs}
 use Rattle.choice.specs.Inner.Judged.{columns_size, column_at, Drawn}
 
@@ -22,7 +22,7 @@ pub drawing_none : (items : List ℕ) → length items ≡ columns_size → Draw
 drawing_none items e = record { drawn = record { size = e; are = λ i w h l. absurd (omega arith) }; left = refl }
 
 -- block w is turned where it stands
-module _ (items before ys : List ℕ) (w : ℕ) (h : w < maxBlocks) (is : ys ≡ turned_in (block w before)) (d : Drawing items before w) where
+module _ (items before ys : List ℕ) (w : ℕ) (h : w < max_blocks) (is : ys ≡ turned_in (block w before)) (d : Drawing items before w) where
   abbrev front : List ℕ
   front = take (64 * w) before
 
@@ -56,7 +56,7 @@ module _ (items before ys : List ℕ) (w : ℕ) (h : w < maxBlocks) (is : ys ≡
   kept : (x : ℕ) → x < 64 * w → get_or after x 0 ≡ get_or before x 0
   kept x l = get_or-append front (ys ++ rest) 0 x (omega (arith, front_long)) ∙ get_or-take (64 * w) before x 0 l
 
-  are_more : (i v : ℕ) → i ≤ max_inputs → v < w + 1 → column_at after i v ≡ inputColumn i (block v items)
+  are_more : (i v : ℕ) → i ≤ max_inputs → v < w + 1 → column_at after i v ≡ input_column i (block v items)
   are_more zero v l k = refl
   are_more (suc i) v l k = let low : v ≤ w = omega arith in go (eq-or-lt_of_le low)
     where

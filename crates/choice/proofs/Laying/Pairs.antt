@@ -9,45 +9,45 @@ use lib.ListN.{length, get_or, drop, length-append, length-map, length-drop, dro
 use lib.Seq.{sets, length-sets, drop-cons, take_all}
 use Rattle.lists.proofs.Writing.Storing.{sets_append}
 use Rattle.lists.proofs.Entries.Walk.{lent}
-use Rattle.choice.specs.Inner.Layout.{pairsOf}
+use Rattle.choice.specs.Inner.Layout.{pairs_of}
 
 -- the pairs of the members before i are stored, up to place w
 pub record Pairing (group before : List ℕ) (at : ℕ) (out : List ℕ) (w i : ℕ) : Type 0 where
   pub within : i ≤ length group
   pub size : length out ≡ length before
-  pub place : w + length (pairsOf (drop i group)) ≡ at + length (pairsOf group)
-  pub is : sets out w (pairsOf (drop i group)) ≡ sets before at (pairsOf group)
+  pub place : w + length (pairs_of (drop i group)) ≡ at + length (pairs_of group)
+  pub is : sets out w (pairs_of (drop i group)) ≡ sets before at (pairs_of group)
 
 module _ (group before : List ℕ) (at : ℕ) where
   pub pairing_none : Pairing group before at before at 0
   pairing_none = record { within = omega arith; size = refl; place = refl; is = refl }
 
-  pub pairing_end : (out : List ℕ) (w i : ℕ) → length group ≤ i → Pairing group before at out w i → (out ≡ sets before at (pairsOf group)) × (w ≡ at + length (pairsOf group))
-  unfolding pairsOf
+  pub pairing_end : (out : List ℕ) (w i : ℕ) → length group ≤ i → Pairing group before at out w i → (out ≡ sets before at (pairs_of group)) × (w ≡ at + length (pairs_of group))
+  unfolding pairs_of
   pairing_end out w i h p =
-      let e : pairsOf (drop i group) ≡ [] = ap pairsOf (drop_of_length-le group h) in
-      let s : sets out w [] ≡ sets before at (pairsOf group) = ap (sets out w) (sym e) ∙ p.is in
+      let e : pairs_of (drop i group) ≡ [] = ap pairs_of (drop_of_length-le group h) in
+      let s : sets out w [] ≡ sets before at (pairs_of group) = ap (sets out w) (sym e) ∙ p.is in
       (s, omega (arith, p.place, ap length e))
 
   module _ (d : ℕ) (out : List ℕ) (w i : ℕ) (h : i < length group) (p : Pairing group before at out w i) where
     abbrev pairs : List ℕ
     pairs = map (bit_xor (get_or group i d)) (drop (i + 1) group)
 
-    next : pairsOf (drop i group) ≡ pairs ++ pairsOf (drop (i + 1) group)
-    unfolding pairsOf
-    next = ap pairsOf (drop-cons group i d h) ∙ rw (add-one i)
+    next : pairs_of (drop i group) ≡ pairs ++ pairs_of (drop (i + 1) group)
+    unfolding pairs_of
+    next = ap pairs_of (drop-cons group i d h) ∙ rw (add-one i)
 
     size : length pairs ≡ length group - (i + 1)
     size = rw (length-map, length-drop)
 
-    place : w + (length group - (i + 1)) + length (pairsOf (drop (i + 1) group)) ≡ at + length (pairsOf group)
-    place = omega (arith, p.place, ap length next, length-append pairs (pairsOf (drop (i + 1) group)), size)
+    place : w + (length group - (i + 1)) + length (pairs_of (drop (i + 1) group)) ≡ at + length (pairs_of group)
+    place = omega (arith, p.place, ap length next, length-append pairs (pairs_of (drop (i + 1) group)), size)
 
     -- the members after i, as they are lent
     others : lent (i + 1) (length group) group ≡ drop (i + 1) group
     others = take_all (length group - (i + 1)) (drop (i + 1) group) (omega (arith, length-drop (i + 1) group))
 
-    module _ (r : at + length (pairsOf group) ≤ length before) where
+    module _ (r : at + length (pairs_of group) ≤ length before) where
       pub pairing_room : w + (length group - (i + 1)) ≤ length out
       pairing_room = omega (arith, place, p.size)
 
@@ -62,5 +62,5 @@ module _ (group before : List ℕ) (at : ℕ) where
           within = omega arith;
           size = ap length q ∙ length-sets out w pairs ∙ p.size;
           place = place;
-          is = rw (q, ← size) (sym (sets_append pairs (pairsOf (drop (i + 1) group)) out w) ∙ ap (sets out w) (sym next) ∙ p.is);
+          is = rw (q, ← size) (sym (sets_append pairs (pairs_of (drop (i + 1) group)) out w) ∙ ap (sets out w) (sym next) ∙ p.is);
         }

@@ -17,7 +17,7 @@ use Rattle.vectors.specs.Variable.{earlier, later, value_of, faulty}
 use Rattle.choice.specs.Choice.{candidates, best_of}
 use Rattle.choice.specs.Inner.Split.{tally}
 use Rattle.choice.proofs.Choice.Candidates.{candidates_sound}
-use Rattle.choice.specs.Inner.Layout.{maxBlocks, blocksOf, endsOf, items_of, block, inputColumn}
+use Rattle.choice.specs.Inner.Layout.{max_blocks, blocks_of, ends_of, items_of, block, input_column}
 use Rattle.choice.specs.Inner.Gain.{whole_gain, pair_gain, gains, Counts, most_of, small_most}
 use Rattle.vectors.specs.Bounds.{max_inputs}
 use Rattle.choice.specs.Inner.Best.{score_of, Searched}
@@ -66,15 +66,15 @@ module _ (t u : ℕ → ℕ) where
 
 -- how many blocks the groups take
 abbrev pub blocks_in : List (List ℕ) → ℕ
-blocks_in gs = blocksOf (length (items_of gs))
+blocks_in gs = blocks_of (length (items_of gs))
 
-module _ (sizes words columns rests : List ℕ) (n zeros : ℕ) (s : Searched sizes words n) (fit : blocks_in (cut sizes words) ≤ maxBlocks)
+module _ (sizes words columns rests : List ℕ) (n zeros : ℕ) (s : Searched sizes words n) (fit : blocks_in (cut sizes words) ≤ max_blocks)
     (r : Bounds (cut sizes words) rests (blocks_in (cut sizes words))) (d : Drawn (items_of (cut sizes words) ++ replicate zeros 0) columns (blocks_in (cut sizes words))) where
   abbrev gs : List (List ℕ)
   gs = cut sizes words
 
   abbrev ends : List ℕ
-  ends = endsOf (cut sizes words)
+  ends = ends_of (cut sizes words)
 
   abbrev blocks : ℕ
   blocks = blocks_in (cut sizes words)
@@ -139,11 +139,11 @@ module _ (sizes words columns rests : List ℕ) (n zeros : ℕ) (s : Searched si
           rests_low = rw rests_is (λ w a b. rw (get_or-take blocks rests w 0 b) (omega (arith, r.low w a b, halves_are)));
         }
 
-  pub sheets : Sheets columns (endsOf (cut sizes words)) (take (blocks_in (cut sizes words)) rests) (most_of sizes) n
+  pub sheets : Sheets columns (ends_of (cut sizes words)) (take (blocks_in (cut sizes words)) rests) (most_of sizes) n
   sheets zero j h l = serves (kind_of zero j) (kind_sound n zero j h l)
   sheets (suc i) j h l = serves (kind_of (suc i) j) (kind_sound n (suc i) j h l)
 
-  pub sheet_best : (degree : ℕ) → best_of (left_by columns (endsOf (cut sizes words)) (blocks_in (cut sizes words))) (candidates n degree) ≡ best_of (score_of sizes words) (candidates n degree)
+  pub sheet_best : (degree : ℕ) → best_of (left_by columns (ends_of (cut sizes words)) (blocks_in (cut sizes words))) (candidates n degree) ≡ best_of (score_of sizes words) (candidates n degree)
   sheet_best degree =
       sym
       (best_gains sizes words max_gain (λ k. gain_at columns ends blocks (earlier k) (later k)) low (candidates n degree)
@@ -155,7 +155,7 @@ module _ (sizes words columns rests : List ℕ) (n zeros : ℕ) (s : Searched si
   pairs_gain (suc i) j h l = sym (gain_pair gs (suc i) j) ∙ sym (gain_is (kind_of (suc i) j) (kind_sound n (suc i) j h l))
 
   -- a candidate with a tied input is beaten
-  pub sheet_beaten : (tied : ℕ) → Ties tied (λ x. x) (cut sizes words) → Beaten (tied / 2 * 2) (gain_at columns (endsOf (cut sizes words)) (blocks_in (cut sizes words))) n
+  pub sheet_beaten : (tied : ℕ) → Ties tied (λ x. x) (cut sizes words) → Beaten (tied / 2 * 2) (gain_at columns (ends_of (cut sizes words)) (blocks_in (cut sizes words))) n
   sheet_beaten tied t = beaten_same (tied / 2 * 2) (gain_of gs) (gain_at columns ends blocks) n pairs_gain (ties_beaten gs n tied s.inputs t)
 
 -- ---- as the code has laid and drawn it
@@ -177,24 +177,24 @@ module _ (sizes words items ends rests columns : List ℕ) (n : ℕ) (r : Laid) 
   drawn : Drawn (items_of (cut sizes words) ++ replicate zeros 0) columns (blocks_in (cut sizes words))
   drawn =
       let c = subst (λ (m : ℕ). Drawn items columns ((m + 63) / 64)) o.count_is d in
-      record { size = c.size; are = λ i w l h. c.are i w l h ∙ ap (inputColumn i) (block_is w h) }
+      record { size = c.size; are = λ i w l h. c.are i w l h ∙ ap (input_column i) (block_is w h) }
 
-  fits : blocks_in (cut sizes words) ≤ maxBlocks
+  fits : blocks_in (cut sizes words) ≤ max_blocks
   fits = omega (arith, o.few)
 
   pub made_sheets : Sheets columns (take r.whole ends) (take ((r.items + 63) / 64) rests) (most_of sizes) n
   made_sheets =
       subst (λ (l : List ℕ). Sheets columns l (take ((r.items + 63) / 64) rests) (most_of sizes) n) (sym o.ends_are)
-      (subst (λ (m : ℕ). Sheets columns (endsOf (cut sizes words)) (take ((m + 63) / 64) rests) (most_of sizes) n) (sym o.count_is)
+      (subst (λ (m : ℕ). Sheets columns (ends_of (cut sizes words)) (take ((m + 63) / 64) rests) (most_of sizes) n) (sym o.count_is)
       (sheets sizes words columns rests n zeros s fits o.bounds drawn))
 
   blocks_are : length (take ((r.items + 63) / 64) rests) ≡ blocks_in (cut sizes words)
-  blocks_are = sym (rests_size o) ∙ ap blocksOf o.count_is
+  blocks_are = sym (rests_size o) ∙ ap blocks_of o.count_is
 
   pub made_beaten : (tied : ℕ) → Ties tied (λ x. x) (cut sizes words) → Beaten (tied / 2 * 2) (gain_at columns (take r.whole ends) (length (take ((r.items + 63) / 64) rests))) n
   made_beaten tied t =
       subst (λ (l : List ℕ). Beaten (tied / 2 * 2) (gain_at columns l (length (take ((r.items + 63) / 64) rests))) n) (sym o.ends_are)
-      (subst (λ (m : ℕ). Beaten (tied / 2 * 2) (gain_at columns (endsOf (cut sizes words)) m) n) (sym blocks_are)
+      (subst (λ (m : ℕ). Beaten (tied / 2 * 2) (gain_at columns (ends_of (cut sizes words)) m) n) (sym blocks_are)
       (sheet_beaten sizes words columns rests n zeros s fits o.bounds drawn tied t))
 
   pub made_best : (degree : ℕ) → best_of (left_by columns (take r.whole ends) (length (take ((r.items + 63) / 64) rests))) (candidates n degree) ≡ best_of (score_of sizes words) (candidates n degree)

@@ -1,7 +1,7 @@
 -- How many pairs of a group's members a candidate tells apart, from the blocks' tallies.
 use Rattle.std.specs.Prelude.{ℕ, zero, suc, ◌+◌, ◌-◌, ◌*◌, ◌≤◌, ◌/◌, ◌≡◌, cond, List, [], ◌∷◌, eqb, leb, length}
 use Rattle.choice.specs.Inner.Split.{tally}
-use Rattle.choice.specs.Inner.Layout.{pairedMost}
+use Rattle.choice.specs.Inner.Layout.{paired_most}
 
 -- of a members with 1 and the others with 0, each two of different value
 abbrev pub splits : ℕ → ℕ → ℕ
@@ -36,4 +36,4 @@ most_of (s ∷ ss) = s * s / 4 + most_of ss
 -- and the small ones of these groups
 unfoldable pub small_most : List (List ℕ) → ℕ
 small_most [] = 0
-small_most (g ∷ gs) = cond (leb (length g) pairedMost) (length g * length g / 4 + small_most gs) (small_most gs)
+small_most (g ∷ gs) = cond (leb (length g) paired_most) (length g * length g / 4 + small_most gs) (small_most gs)

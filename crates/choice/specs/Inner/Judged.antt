@@ -4,7 +4,7 @@ use Rattle.std.specs.Int.Bits.{bit_xor}
 use Rattle.std.specs.Int.Count.{ones}
 use Rattle.vectors.specs.declared.Kind.{Kind}
 use Rattle.choice.specs.declared.judge.Large.{Large}
-use Rattle.choice.specs.Inner.Layout.{maxBlocks, block, inputColumn}
+use Rattle.choice.specs.Inner.Layout.{max_blocks, block, input_column}
 use Rattle.choice.specs.Inner.Gain.{whole_gain, most_of, pair_gain, Counts}
 use Rattle.vectors.specs.Bounds.{max_inputs}
 use Rattle.vectors.specs.Variable.{earlier, later}
@@ -15,7 +15,7 @@ max_gain = 2 ^ 20
 
 -- a word for each input in each block
 abbrev pub columns_size : ℕ
-columns_size = 64 * maxBlocks
+columns_size = 64 * max_blocks
 
 -- the word of input i in block w; of input 0, zeros
 abbrev pub column_at : List ℕ → ℕ → ℕ → ℕ
@@ -25,7 +25,7 @@ column_at columns (suc i) w = get_or columns (64 * w + i) 0
 -- the columns of the first blocks of the items
 pub record Drawn (items columns : List ℕ) (blocks : ℕ) : Type 0 where
   pub size : length columns ≡ columns_size
-  pub are : (i w : ℕ) → i ≤ max_inputs → w < blocks → column_at columns i w ≡ inputColumn i (block w items)
+  pub are : (i w : ℕ) → i ≤ max_inputs → w < blocks → column_at columns i w ≡ input_column i (block w items)
 
 -- the XOR of the columns of inputs i and j in block w
 abbrev pub cross_at : List ℕ → ℕ → ℕ → ℕ → ℕ
@@ -47,7 +47,7 @@ pub record Pairs (columns rests : List ℕ) (i j from start : ℕ) : Type 0 wher
   pub first_in : i ≤ max_inputs
   pub second_in : j ≤ max_inputs
   pub second_some : 0 < j
-  pub fit : length rests ≤ maxBlocks
+  pub fit : length rests ≤ max_blocks
   pub within : from ≤ length rests
   pub high : (w : ℕ) → from ≤ w → w < length rests → pair_gain (length rests - w) (tally_at columns i j) w ≤ get_or rests w 0
   pub low : (w : ℕ) → from ≤ w → w < length rests → get_or rests w 0 ≤ max_gain
@@ -57,7 +57,7 @@ pub record Pairs (columns rests : List ℕ) (i j from start : ℕ) : Type 0 wher
 pub record Sheet (columns ends rests : List ℕ) (most i j : ℕ) : Type 0 where
   pub size : length columns ≡ columns_size
   pub whole : length ends ≤ length rests
-  pub fit : length rests ≤ maxBlocks
+  pub fit : length rests ≤ max_blocks
   pub first_in : i ≤ max_inputs
   pub second_in : j ≤ max_inputs
   pub second_some : 0 < j

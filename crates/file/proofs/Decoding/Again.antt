@@ -24,7 +24,7 @@ use Rattle.block.specs.Bytes.{little_of, words_of}
 use Rattle.block.specs.Block.{padded, block_of, short_word, long_word, short_words, long_words}
 use Rattle.block.proofs.Reading.Numbers.{little_mod}
 use Rattle.block.proofs.Reading.Words.{low_words, words_low}
-use Rattle.file.specs.Layout.{headKind, hKind, gKind, auxKind}
+use Rattle.file.specs.Layout.{head_kind, h_kind, g_kind, aux_kind}
 use Rattle.file.specs.File.{opening, variables_bytes, head_of, blocks_for, stack, table_block, table_of, rows_in, words_in, h_first, g_first, aux_first, file_with, file_of}
 use Rattle.file.specs.Decode.{record_in, tables_in}
 use Rattle.file.specs.Facts.{SameRecord, carried_record, carried_tables, ReadsBack}
@@ -84,7 +84,7 @@ module _ (u v : Record) (e : SameRecord u v) where
   pub head_same : head_of u ≡ head_of v
   unfolding head_of
   head_same =
-      ap (block_of (opening headKind 0))
+      ap (block_of (opening head_kind 0))
       (fields_are u
       ∙ ap₂ (λ (f : List ℕ) (ks : List Kind). f ++ padded (2 * max_variables) (variables_bytes ks) ++ mark_bytes u) fields_same e.variables
       ∙ ap (λ (m : Mark). fields_of v ++ padded (2 * max_variables) (variables_bytes (kinds_in v)) ++ (mark_number m % 256 ∷ [])) e.mark
@@ -139,9 +139,9 @@ module _ (u : Record) (t : Tables) (h : sound u t ≡ true) where
   unfolding file_of file_with record_of
   carried_file =
       joined (sym (head_same u (carried_record u) (record_same u t h)))
-      (blocks_again hKind short_word short_words h_first (rows_in u) (take (rows_in u) t.h) w.rows)
-      (blocks_again gKind short_word short_words (g_first u) u.cells (take u.cells t.g) w.cells)
-      (blocks_again auxKind long_word long_words (aux_first u) (words_in u) (take (words_in u) t.aux) w.words)
+      (blocks_again h_kind short_word short_words h_first (rows_in u) (take (rows_in u) t.h) w.rows)
+      (blocks_again g_kind short_word short_words (g_first u) u.cells (take u.cells t.g) w.cells)
+      (blocks_again aux_kind long_word long_words (aux_first u) (words_in u) (take (words_in u) t.aux) w.words)
 
   pub file_reads_back : ReadsBack (file_of u t)
   file_reads_back =

@@ -24,7 +24,7 @@ use Rattle.block.specs.Block.{opening_of, padded, check_of, short_word, long_wor
 use Rattle.block.proofs.Laying.Words.{length_padded}
 use Rattle.block.proofs.Reading.Numbers.{value_little}
 use Rattle.block.proofs.Reading.Blocks.{body_of, unused, block_parts}
-use Rattle.file.specs.Layout.{headKind, hKind, gKind, auxKind, nAt, p_at, n1At, kAt, cellsAt, triesAt, variablesAt, markAt}
+use Rattle.file.specs.Layout.{head_kind, h_kind, g_kind, aux_kind, n_at, p_at, n1_at, k_at, cells_at, tries_at, variables_at, mark_at}
 use Rattle.file.specs.File.{opening, variables_bytes, head_payload, head_of, table_of, h_first, g_first, aux_first, file_with}
 use Rattle.file.specs.Decode.{kind_of, kinds_from}
 use Rattle.file.proofs.Laying.Heads.{length_variables, fields_of, mark_bytes, fields_are}
@@ -32,7 +32,7 @@ use Rattle.file.proofs.Laying.Heads.{length_variables, fields_of, mark_bytes, fi
 -- the bytes of a file up to the mark, and the rest
 pub record Opens (u : Record) (file : List ℕ) : Type 0 where
   pub rest : List ℕ
-  pub is : file ≡ opening_of (opening headKind 0) ++ fields_of u ++ (padded (2 * max_variables) (variables_bytes (kinds_in u)) ++ (mark_bytes u ++ rest))
+  pub is : file ≡ opening_of (opening head_kind 0) ++ fields_of u ++ (padded (2 * max_variables) (variables_bytes (kinds_in u)) ++ (mark_bytes u ++ rest))
 
 regroup : (o f w m x h g a : List ℕ) → o ++ (f ++ w ++ m ++ x) ++ h ++ g ++ a ≡ o ++ f ++ (w ++ (m ++ (x ++ (h ++ (g ++ a)))))
 regroup o f w m x h g a = simp append_assoc
@@ -40,11 +40,11 @@ regroup o f w m x h g a = simp append_assoc
 pub opens : (u : Record) (h g aux : List ℕ) → Opens u (file_with u h g aux)
 unfolding file_with head_of
 opens u h g aux =
-    let o : Opening = opening headKind 0 in
+    let o : Opening = opening head_kind 0 in
     let x : List ℕ = unused o (head_payload u) ++ check_of (body_of o (head_payload u)) in
-    let p : List ℕ = table_of hKind short_word short_words h_first h in
-    let q : List ℕ = table_of gKind short_word short_words (g_first u) g in
-    let r : List ℕ = table_of auxKind long_word long_words (aux_first u) aux in
+    let p : List ℕ = table_of h_kind short_word short_words h_first h in
+    let q : List ℕ = table_of g_kind short_word short_words (g_first u) g in
+    let r : List ℕ = table_of aux_kind long_word long_words (aux_first u) aux in
     record {
       rest = _;
       is = ap (λ (l : List ℕ). l ++ p ++ q ++ r) (block_parts o (head_payload u) ∙ ap (λ (l : List ℕ). opening_of o ++ (l ++ x)) (fields_are u))
@@ -57,41 +57,41 @@ module _ (u : Record) (file : List ℕ) (o : Opens u file) where
   abbrev variables : List ℕ
   variables = padded (2 * max_variables) (variables_bytes (kinds_in u))
 
-  field : (m at w : ℕ) → take m (drop at (opening_of (opening headKind 0) ++ fields_of u ++ (variables ++ (mark_bytes u ++ o.rest)))) ≡ little_of m w → number_at m at file ≡ w % 256 ^ m
+  field : (m at w : ℕ) → take m (drop at (opening_of (opening head_kind 0) ++ fields_of u ++ (variables ++ (mark_bytes u ++ o.rest)))) ≡ little_of m w → number_at m at file ≡ w % 256 ^ m
   unfolding number_at
   field m at w e = ap (number_at m at) o.is ∙ ap value_of e ∙ value_little m w
 
-  pub n_read : number_at 1 nAt file ≡ u.n % 256
+  pub n_read : number_at 1 n_at file ≡ u.n % 256
   unfolding opening_of little_of
-  n_read = field 1 nAt u.n refl
+  n_read = field 1 n_at u.n refl
 
   pub p_read : number_at 1 p_at file ≡ u.p % 256
   unfolding opening_of little_of
   p_read = field 1 p_at u.p refl
 
-  pub n1_read : number_at 1 n1At file ≡ u.n1 % 256
+  pub n1_read : number_at 1 n1_at file ≡ u.n1 % 256
   unfolding opening_of little_of
-  n1_read = field 1 n1At u.n1 refl
+  n1_read = field 1 n1_at u.n1 refl
 
-  pub k_read : number_at 2 kAt file ≡ u.k % 2 ^ 16
+  pub k_read : number_at 2 k_at file ≡ u.k % 2 ^ 16
   unfolding opening_of little_of
-  k_read = field 2 kAt u.k refl
+  k_read = field 2 k_at u.k refl
 
-  pub cells_read : number_at 2 cellsAt file ≡ u.cells % 2 ^ 16
+  pub cells_read : number_at 2 cells_at file ≡ u.cells % 2 ^ 16
   unfolding opening_of little_of
-  cells_read = field 2 cellsAt u.cells refl
+  cells_read = field 2 cells_at u.cells refl
 
-  pub tries_read : number_at 4 triesAt file ≡ u.tries % 2 ^ 32
+  pub tries_read : number_at 4 tries_at file ≡ u.tries % 2 ^ 32
   unfolding opening_of little_of
-  tries_read = field 4 triesAt u.tries refl
+  tries_read = field 4 tries_at u.tries refl
 
   -- behind all the variables
-  pub mark_read : length (kinds_in u) ≤ max_variables → number_at 1 markAt file ≡ mark_number u.mark
+  pub mark_read : length (kinds_in u) ≤ max_variables → number_at 1 mark_at file ≡ mark_number u.mark
   unfolding opening_of little_of
   mark_read few =
-      let f : List ℕ = opening_of (opening headKind 0) ++ fields_of u in
-      let n : length (f ++ variables) ≡ markAt = length-append f variables ∙ omega (arith, length_padded (2 * max_variables) (variables_bytes (kinds_in u)) (omega (arith, length_variables (kinds_in u)))) in
-      field 1 markAt (mark_number u.mark) (ap (λ (l : List ℕ). take 1 (drop markAt l)) (sym (append_assoc f variables (mark_bytes u ++ o.rest))) ∙ ap (take 1) (drop_at (f ++ variables) (mark_bytes u ++ o.rest) markAt n))
+      let f : List ℕ = opening_of (opening head_kind 0) ++ fields_of u in
+      let n : length (f ++ variables) ≡ mark_at = length-append f variables ∙ omega (arith, length_padded (2 * max_variables) (variables_bytes (kinds_in u)) (omega (arith, length_variables (kinds_in u)))) in
+      field 1 mark_at (mark_number u.mark) (ap (λ (l : List ℕ). take 1 (drop mark_at l)) (sym (append_assoc f variables (mark_bytes u ++ o.rest))) ∙ ap (take 1) (drop_at (f ++ variables) (mark_bytes u ++ o.rest) mark_at n))
       ∙ mod-eq_of_lt (omega (arith, mark_low u.mark))
 
 -- ---- the variables
@@ -123,13 +123,13 @@ kinds_read n (Two i j ∷ ks) rest a =
     ap₂ (λ (k : Kind) (l : List Kind). k ∷ l) (pair_read n i j a.0) (behind (length ks) 0 (i ∷ j ∷ []) (variables_bytes ks ++ rest) ∙ kinds_read n ks rest a.1)
 
 pub variables_read : (u : Record) (file : List ℕ) → Opens u file → All (λ k. faulty u.n k ≡ false) (kinds_in u)
-    → kinds_from (length (kinds_in u)) variablesAt file ≡ kinds_in u
+    → kinds_from (length (kinds_in u)) variables_at file ≡ kinds_in u
 unfolding opening_of little_of
 variables_read u file o a =
-    let f : List ℕ = opening_of (opening headKind 0) ++ fields_of u in
+    let f : List ℕ = opening_of (opening head_kind 0) ++ fields_of u in
     let v : List ℕ = variables_bytes (kinds_in u) in
     let z : List ℕ = replicate (2 * max_variables - length v) 0 in
-    ap (kinds_from (length (kinds_in u)) variablesAt) o.is
+    ap (kinds_from (length (kinds_in u)) variables_at) o.is
     ∙ behind (length (kinds_in u)) 0 f (v ++ z ++ (mark_bytes u ++ o.rest))
     ∙ ap (kinds_from (length (kinds_in u)) 0) (append_assoc v z (mark_bytes u ++ o.rest))
     ∙ kinds_read u.n (kinds_in u) (z ++ (mark_bytes u ++ o.rest)) a

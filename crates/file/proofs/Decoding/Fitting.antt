@@ -100,7 +100,7 @@ module _ (n n1 : ℕ) (second : Refusal) (ks : List Kind) (cells : ℕ) (vs : Li
       let cs : List Care = cares_from 1 n1 ks vs in
       let d : Care = record { index = 0; row = 0; column = 0 } in
       let c : Care = get_or (in_row r cs) 0 d in
-      let j = in_row_lem r c cs (get_d_in (in_row r cs) 0 d (placing.placed-weighs cs (replicate (2 ^ n1) 0) (replicate cells 0) r m)) in
+      let j = in_row_lem r c cs (get_d_in (in_row r cs) 0 d (placing.placed_weighs cs (replicate (2 ^ n1) 0) (replicate cells 0) r m)) in
       let q = cares_entry n1 ks 1 vs c j.0 in
       (q.at, q.below, ap (λ (x : Care). x.row) (sym q.is) ∙ j.1)
 

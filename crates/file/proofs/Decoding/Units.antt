@@ -16,7 +16,7 @@ use Rattle.record.proofs.MarkNumbers.{mark_back}
 use Rattle.block.specs.Bytes.{number_at}
 use Rattle.block.specs.Block.{block_size, short_word, long_word, short_words, long_words}
 use Rattle.block.proofs.Reading.Words.{low_words}
-use Rattle.file.specs.Layout.{hKind, gKind, auxKind, nAt, p_at, n1At, kAt, cellsAt, variablesAt, markAt}
+use Rattle.file.specs.Layout.{h_kind, g_kind, aux_kind, n_at, p_at, n1_at, k_at, cells_at, variables_at, mark_at}
 use Rattle.file.specs.File.{head_of, table_of, blocks_for, rows_in, words_in, h_first, g_first, aux_first, file_with, file_of}
 use Rattle.file.specs.Decode.{kinds_from, record_in, table_in, tables_in}
 use Rattle.file.specs.Facts.{carried_record, carried_tables}
@@ -28,34 +28,34 @@ use Rattle.file.proofs.Decoding.Words.{table_read}
 -- ---- the tables
 
 module _ (u : Record) (h g aux : List ℕ) (w : Whole u h g aux) where
-  before_g : length (head_of u ++ table_of hKind short_word short_words h_first h) ≡ block_size * g_first u
+  before_g : length (head_of u ++ table_of h_kind short_word short_words h_first h) ≡ block_size * g_first u
   before_g =
-      length-append (head_of u) (table_of hKind short_word short_words h_first h)
-      ∙ omega (arith, length_head u w.variables_few, length_table hKind short_word short_words h_first h (omega arith), ap (blocks_for short_words) w.rows)
+      length-append (head_of u) (table_of h_kind short_word short_words h_first h)
+      ∙ omega (arith, length_head u w.variables_few, length_table h_kind short_word short_words h_first h (omega arith), ap (blocks_for short_words) w.rows)
 
-  before_aux : length (head_of u ++ table_of hKind short_word short_words h_first h ++ table_of gKind short_word short_words (g_first u) g) ≡ block_size * aux_first u
+  before_aux : length (head_of u ++ table_of h_kind short_word short_words h_first h ++ table_of g_kind short_word short_words (g_first u) g) ≡ block_size * aux_first u
   before_aux =
-      length-append (head_of u ++ table_of hKind short_word short_words h_first h) (table_of gKind short_word short_words (g_first u) g)
-      ∙ omega (arith, before_g, length_table gKind short_word short_words (g_first u) g (omega arith), ap (blocks_for short_words) w.cells)
+      length-append (head_of u ++ table_of h_kind short_word short_words h_first h) (table_of g_kind short_word short_words (g_first u) g)
+      ∙ omega (arith, before_g, length_table g_kind short_word short_words (g_first u) g (omega arith), ap (blocks_for short_words) w.cells)
 
   -- H behind the head, G behind H, AUX behind G
   tables_in_lem : tables_in u (file_with u h g aux) ≡ lent (low_words short_word h) (low_words short_word g) (low_words long_word aux)
   unfolding tables_in file_with
   tables_in_lem =
       let a : List ℕ = head_of u in
-      let p : List ℕ = table_of hKind short_word short_words h_first h in
-      let q : List ℕ = table_of gKind short_word short_words (g_first u) g in
-      let r : List ℕ = table_of auxKind long_word long_words (aux_first u) aux in
+      let p : List ℕ = table_of h_kind short_word short_words h_first h in
+      let q : List ℕ = table_of g_kind short_word short_words (g_first u) g in
+      let r : List ℕ = table_of aux_kind long_word long_words (aux_first u) aux in
       let f : List ℕ = a ++ p ++ q ++ r in
       let eh : table_in short_word short_words h_first (rows_in u) f ≡ low_words short_word h =
       ap₂ (table_in short_word short_words h_first) (sym w.rows) (append_assoc (a ++ p) q r ∙ append_assoc a p (q ++ r))
-      ∙ table_read hKind short_word short_words (omega arith) h_first h a (q ++ r) (omega arith) (length_head u w.variables_few) in
+      ∙ table_read h_kind short_word short_words (omega arith) h_first h a (q ++ r) (omega arith) (length_head u w.variables_few) in
       let eg : table_in short_word short_words (g_first u) u.cells f ≡ low_words short_word g =
       ap₂ (table_in short_word short_words (g_first u)) (sym w.cells) (append_assoc (a ++ p) q r)
-      ∙ table_read gKind short_word short_words (omega arith) (g_first u) g (a ++ p) r (omega arith) before_g in
+      ∙ table_read g_kind short_word short_words (omega arith) (g_first u) g (a ++ p) r (omega arith) before_g in
       let ex : table_in long_word long_words (aux_first u) (words_in u) f ≡ low_words long_word aux =
       ap₂ (table_in long_word long_words (aux_first u)) (sym w.words) (ap (λ (l : List ℕ). a ++ p ++ q ++ l) (sym (append-nil r)))
-      ∙ table_read auxKind long_word long_words (omega arith) (aux_first u) aux (a ++ p ++ q) [] (omega arith) before_aux in
+      ∙ table_read aux_kind long_word long_words (omega arith) (aux_first u) aux (a ++ p ++ q) [] (omega arith) before_aux in
       cc
 
 -- ---- the whole
@@ -72,13 +72,13 @@ module _ (u : Record) (t : Tables) (h : sound u t ≡ true) where
       let s : Sound u t = sound_says u t h in
       let w : WellFormed u t = well_formed_facts u t s.well_formed_lem in
       let r : Ranges u t = ranges u t h in
-      let n : number_at 1 nAt f ≡ u.n = omega (arith, n_read u f begins) in
+      let n : number_at 1 n_at f ≡ u.n = omega (arith, n_read u f begins) in
       let p : number_at 1 p_at f ≡ length (kinds_in u) = omega (arith, p_read u f begins) in
-      let n1 : number_at 1 n1At f ≡ u.n1 = omega (arith, n1_read u f begins) in
-      let k : number_at 2 kAt f ≡ u.k = omega (arith, k_read u f begins) in
-      let c : number_at 2 cellsAt f ≡ u.cells = omega (arith, cells_read u f begins) in
-      let ks : kinds_from (number_at 1 p_at f) variablesAt f ≡ kinds_in u = ap (λ (i : ℕ). kinds_from i variablesAt f) p ∙ variables_read u f begins w.inputs.right in
-      let m : mark_of (number_at 1 markAt f) ≡ u.mark = ap mark_of (mark_read u f begins r.variables_few) ∙ mark_back u.mark in
+      let n1 : number_at 1 n1_at f ≡ u.n1 = omega (arith, n1_read u f begins) in
+      let k : number_at 2 k_at f ≡ u.k = omega (arith, k_read u f begins) in
+      let c : number_at 2 cells_at f ≡ u.cells = omega (arith, cells_read u f begins) in
+      let ks : kinds_from (number_at 1 p_at f) variables_at f ≡ kinds_in u = ap (λ (i : ℕ). kinds_from i variables_at f) p ∙ variables_read u f begins w.inputs.right in
+      let m : mark_of (number_at 1 mark_at f) ≡ u.mark = ap mark_of (mark_read u f begins r.variables_few) ∙ mark_back u.mark in
       cc (tries_read u f begins)
 
   tables_are : tables_in u (file_of u t) ≡ carried_tables u t

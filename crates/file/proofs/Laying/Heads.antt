@@ -21,7 +21,7 @@ use Rattle.record.proofs.MarkNumbers.{mark_low}
 use Rattle.block.specs.Bytes.{little_of}
 use Rattle.block.specs.Block.{payload_at, check_at, opening_of, padded, sealed, block_of}
 use Rattle.block.proofs.Laying.Words.{length_opening, length_padded, laid}
-use Rattle.file.specs.Layout.{headKind, lettersAt, variablesAt, markAt}
+use Rattle.file.specs.Layout.{head_kind, letters_at, variables_at, mark_at}
 use Rattle.file.specs.File.{opening, variable_bytes, variables_bytes, head_payload, head_of}
 
 length_variable : (k : Kind) → length (variable_bytes k) ≡ 2
@@ -43,34 +43,34 @@ variables_end (j ∷ ks) k = ap (λ (l : List ℕ). variable_bytes j ++ l) (vari
 -- at variable i: l is left of before
 pub record Placing (ks : List Kind) (before l : List ℕ) (i : ℕ) : Type 0 where
   pub long : length l ≡ length before
-  pub is : l ≡ sets before variablesAt (variables_bytes (take i ks))
+  pub is : l ≡ sets before variables_at (variables_bytes (take i ks))
 
 pub placing_none : (ks : List Kind) (before : List ℕ) → Placing ks before before 0
 unfolding variables_bytes
 placing_none ks before = record { long = refl; is = refl }
 
 pub placing_more : (vs : List Variable) (before l : List ℕ) (i x y : ℕ) (d : Variable) → i < length vs → x ∷ y ∷ [] ≡ variable_bytes (get_or vs i d).kind → Placing (kinds_of vs) before l i
-    → Placing (kinds_of vs) before (set (set l (variablesAt + 2 * i) x) (variablesAt + 2 * i + 1) y) (i + 1)
+    → Placing (kinds_of vs) before (set (set l (variables_at + 2 * i) x) (variables_at + 2 * i + 1) y) (i + 1)
 placing_more vs before l i x y d h e s =
     let ks : List Kind = kinds_of vs in
     let j : i < length ks = omega (arith, length-map vs (λ v. v.kind)) in
     let q : x ∷ y ∷ [] ≡ variable_bytes (get_or ks i d.kind) = e ∙ ap variable_bytes (sym (get_or-map (λ (v : Variable). v.kind) vs i d)) in
     let v : List ℕ = variables_bytes (take i ks) in
-    let n : variablesAt + length v ≡ variablesAt + 2 * i = omega (arith, length_variables (take i ks), length-take-le i ks (omega arith)) in
+    let n : variables_at + length v ≡ variables_at + 2 * i = omega (arith, length_variables (take i ks), length-take-le i ks (omega arith)) in
     let m : variables_bytes (take (i + 1) ks) ≡ v ++ (x ∷ y ∷ []) =
     ap variables_bytes (take_more ks i d.kind j) ∙ variables_end (take i ks) (get_or ks i d.kind) ∙ ap (λ (l : List ℕ). v ++ l) (sym q) in
-    let t : sets before variablesAt (v ++ (x ∷ y ∷ [])) ≡ sets (sets before variablesAt v) (variablesAt + 2 * i) (x ∷ y ∷ []) =
-    rw n at (sets_append v (x ∷ y ∷ []) before variablesAt) in
+    let t : sets before variables_at (v ++ (x ∷ y ∷ [])) ≡ sets (sets before variables_at v) (variables_at + 2 * i) (x ∷ y ∷ []) =
+    rw n at (sets_append v (x ∷ y ∷ []) before variables_at) in
     record {
-      long = length-set (set l (variablesAt + 2 * i) x) (variablesAt + 2 * i + 1) y ∙ length-set l (variablesAt + 2 * i) x ∙ s.long;
-      is = rw add-one (ap (λ (l : List ℕ). sets l (variablesAt + 2 * i) (x ∷ y ∷ [])) s.is ∙ sym t ∙ ap (sets before variablesAt) (sym m));
+      long = length-set (set l (variables_at + 2 * i) x) (variables_at + 2 * i + 1) y ∙ length-set l (variables_at + 2 * i) x ∙ s.long;
+      is = rw add-one (ap (λ (l : List ℕ). sets l (variables_at + 2 * i) (x ∷ y ∷ [])) s.is ∙ sym t ∙ ap (sets before variables_at) (sym m));
     }
 
 pub placing_end : (vs : List Variable) (before l : List ℕ) (p i : ℕ) → length vs ≡ max_variables → i ≡ min p max_variables → Placing (kinds_of vs) before l i
-    → l ≡ sets before variablesAt (variables_bytes (kinds_of (take p vs)))
+    → l ≡ sets before variables_at (variables_bytes (kinds_of (take p vs)))
 placing_end vs before l p i n e s =
     let t : take i (kinds_of vs) ≡ kinds_of (take p vs) = ap (λ (j : ℕ). take j (kinds_of vs)) e ∙ take_least p (kinds_of vs) max_variables (length-map vs (λ v. v.kind) ∙ n) ∙ sym (map_take (λ (v : Variable). v.kind) p vs) in
-    s.is ∙ ap (λ (ks : List Kind). sets before variablesAt (variables_bytes ks)) t
+    s.is ∙ ap (λ (ks : List Kind). sets before variables_at (variables_bytes ks)) t
 
 -- ---- the fields together
 
@@ -114,26 +114,26 @@ padded_set size a v h =
     ∙ set-append_seam a 0 (replicate (size - length (a ++ (v ∷ []))) 0) v
     ∙ sym (append_assoc a (v ∷ []) (replicate (size - length (a ++ (v ∷ []))) 0))
 
-pub head_is : (u : Record) (base b r : List ℕ) → length (kinds_in u) ≤ max_variables → base ≡ opening_of (opening headKind 0) ++ replicate check_at 0
-    → b ≡ sets (sets base lettersAt (fields_of u)) variablesAt (variables_bytes (kinds_in u)) → (m : ℕ) → m ≡ mark_number u.mark → r ≡ sealed (take check_at (set b markAt m)) → r ≡ head_of u
+pub head_is : (u : Record) (base b r : List ℕ) → length (kinds_in u) ≤ max_variables → base ≡ opening_of (opening head_kind 0) ++ replicate check_at 0
+    → b ≡ sets (sets base letters_at (fields_of u)) variables_at (variables_bytes (kinds_in u)) → (m : ℕ) → m ≡ mark_number u.mark → r ≡ sealed (take check_at (set b mark_at m)) → r ≡ head_of u
 unfolding head_of block_of
 head_is u base b r few e eb m em q =
     let v : List ℕ = variables_bytes (kinds_in u) in
-    let o : List ℕ = opening_of (opening headKind 0) in
+    let o : List ℕ = opening_of (opening head_kind 0) in
     let f : List ℕ = o ++ fields_of u in
     let w : List ℕ = padded (2 * max_variables) v in
-    let no : length o ≡ payload_at = length_opening (opening headKind 0) in
-    let nf : length f ≡ variablesAt = length-append o (fields_of u) ∙ ap (λ (i : ℕ). i + length (fields_of u)) no in
+    let no : length o ≡ payload_at = length_opening (opening head_kind 0) in
+    let nf : length f ≡ variables_at = length-append o (fields_of u) ∙ ap (λ (i : ℕ). i + length (fields_of u)) no in
     let nv : length v ≡ 2 * length (kinds_in u) = length_variables (kinds_in u) in
-    let nw : length (f ++ w) ≡ markAt = length-append f w ∙ omega (arith, length_padded (2 * max_variables) v (omega arith)) in
+    let nw : length (f ++ w) ≡ mark_at = length-append f w ∙ omega (arith, length_padded (2 * max_variables) v (omega arith)) in
     -- the fields and the variables, with zeros behind them
-    let s : b ≡ sets (o ++ replicate check_at 0) payload_at (fields_of u ++ v) = eb ∙ sym (sets_append (fields_of u) v base lettersAt) ∙ ap (λ (l : List ℕ). sets l payload_at (fields_of u ++ v)) e in
+    let s : b ≡ sets (o ++ replicate check_at 0) payload_at (fields_of u ++ v) = eb ∙ sym (sets_append (fields_of u) v base letters_at) ∙ ap (λ (l : List ℕ). sets l payload_at (fields_of u ++ v)) e in
     let t : take check_at b ≡ padded check_at (f ++ w) =
     ap (take check_at) s ∙ laid o (fields_of u ++ v) no (omega (arith, length-append (fields_of u) v))
     ∙ ap (padded check_at) (sym (append_assoc o (fields_of u) v)) ∙ sym (padded_twice check_at (2 * max_variables) f v (omega arith) (omega arith)) in
     -- and the mark
-    let k : take check_at (set b markAt m) ≡ padded check_at (f ++ w ++ (m ∷ [])) =
-    take-set-lt check_at b markAt m (omega arith) ∙ ap₂ (λ (l : List ℕ) (i : ℕ). set l i m) t (sym nw) ∙ padded_set check_at (f ++ w) m (omega arith) in
+    let k : take check_at (set b mark_at m) ≡ padded check_at (f ++ w ++ (m ∷ [])) =
+    take-set-lt check_at b mark_at m (omega arith) ∙ ap₂ (λ (l : List ℕ) (i : ℕ). set l i m) t (sym nw) ∙ padded_set check_at (f ++ w) m (omega arith) in
     let low : m ≡ mark_number u.mark % 256 = em ∙ sym (mod-eq_of_lt (omega (arith, mark_low u.mark))) in
     let p : f ++ w ++ (m ∷ []) ≡ o ++ head_payload u =
     ap (λ (i : ℕ). f ++ w ++ (i ∷ [])) low ∙ ap (λ (l : List ℕ). l ++ mark_bytes u) (append_assoc o (fields_of u) w)

@@ -21,7 +21,7 @@ use Rattle.record.proofs.Soundness.{sound_says}
 use Rattle.block.specs.Bytes.{little_of, words_of}
 use Rattle.block.specs.Block.{check_at, modulus, sum_of, weigh, opening_of, padded, check_of, block_of, short_word, long_word, short_words, long_words}
 use Rattle.block.proofs.Reading.Numbers.{Bytes, little_bytes}
-use Rattle.file.specs.Layout.{headKind, hKind, gKind, auxKind, letters}
+use Rattle.file.specs.Layout.{head_kind, h_kind, g_kind, aux_kind, letters}
 use Rattle.file.specs.File.{opening, variable_bytes, variables_bytes, head_payload, head_of, blocks_for, stack, table_block, table_of, rows_in, words_in, h_first, g_first, aux_first, file_with, file_of}
 
 join : (a b : List ℕ) → Bytes a → Bytes b → Bytes (a ++ b)
@@ -94,11 +94,11 @@ unfolding file_of file_with head_of
 file_bytes u t h =
     let w = well_formed_facts u t (sound_says u t h).well_formed_lem in
     let a : List ℕ = head_of u in
-    let p : List ℕ = table_of hKind short_word short_words h_first (take (rows_in u) t.h) in
-    let q : List ℕ = table_of gKind short_word short_words (g_first u) (take u.cells t.g) in
-    let r : List ℕ = table_of auxKind long_word long_words (aux_first u) (take (words_in u) t.aux) in
-    let ha : Bytes a = block_bytes headKind 0 (head_payload u) (omega arith) (payload_bytes u (variables_bytes_lem u.n w.bounds.inputs (kinds_in u) w.inputs.right)) in
-    let hp : Bytes p = table_bytes hKind short_word short_words h_first (take (rows_in u) t.h) (omega arith) in
-    let hq : Bytes q = table_bytes gKind short_word short_words (g_first u) (take u.cells t.g) (omega arith) in
-    let hr : Bytes r = table_bytes auxKind long_word long_words (aux_first u) (take (words_in u) t.aux) (omega arith) in
+    let p : List ℕ = table_of h_kind short_word short_words h_first (take (rows_in u) t.h) in
+    let q : List ℕ = table_of g_kind short_word short_words (g_first u) (take u.cells t.g) in
+    let r : List ℕ = table_of aux_kind long_word long_words (aux_first u) (take (words_in u) t.aux) in
+    let ha : Bytes a = block_bytes head_kind 0 (head_payload u) (omega arith) (payload_bytes u (variables_bytes_lem u.n w.bounds.inputs (kinds_in u) w.inputs.right)) in
+    let hp : Bytes p = table_bytes h_kind short_word short_words h_first (take (rows_in u) t.h) (omega arith) in
+    let hq : Bytes q = table_bytes g_kind short_word short_words (g_first u) (take u.cells t.g) (omega arith) in
+    let hr : Bytes r = table_bytes aux_kind long_word long_words (aux_first u) (take (words_in u) t.aux) (omega arith) in
     join (a ++ p ++ q) r (join (a ++ p) q (join a p ha hp) hq) hr

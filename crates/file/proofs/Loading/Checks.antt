@@ -18,7 +18,7 @@ use Rattle.block.specs.Block.{block_size, payload_at, check_at, check_of, block_
 use Rattle.block.specs.Bytes.{words_of}
 use Rattle.block.proofs.Laying.Words.{length_words}
 use Rattle.block.proofs.Reading.Blocks.{block_check}
-use Rattle.file.specs.Layout.{headKind, hKind, gKind, auxKind}
+use Rattle.file.specs.Layout.{head_kind, h_kind, g_kind, aux_kind}
 use Rattle.file.specs.File.{opening, head_payload, head_of, blocks_for, stack, table_block, table_of, rows_in, words_in, h_first, g_first, aux_first, blocks_in, file_with, file_of}
 use Rattle.file.specs.Read.{right_checks}
 use Rattle.file.proofs.Laying.Stacks.{length_table_block, length_stack}
@@ -114,16 +114,16 @@ file_right u t h =
     let gs : List ℕ = take u.cells t.g in
     let ws : List ℕ = take (words_in u) t.aux in
     let a : List ℕ = head_of u in
-    let p : List ℕ = table_of hKind short_word short_words h_first hs in
-    let q : List ℕ = table_of gKind short_word short_words (g_first u) gs in
-    let r : List ℕ = table_of auxKind long_word long_words (aux_first u) ws in
+    let p : List ℕ = table_of h_kind short_word short_words h_first hs in
+    let q : List ℕ = table_of g_kind short_word short_words (g_first u) gs in
+    let r : List ℕ = table_of aux_kind long_word long_words (aux_first u) ws in
     let na : length a ≡ block_size = length_head u w.variables_few in
-    let np : length p ≡ block_size * blocks_for short_words (rows_in u) = length_table hKind short_word short_words h_first hs (omega arith) ∙ ap (λ (n : ℕ). block_size * blocks_for short_words n) w.rows in
-    let nq : length q ≡ block_size * blocks_for short_words u.cells = length_table gKind short_word short_words (g_first u) gs (omega arith) ∙ ap (λ (n : ℕ). block_size * blocks_for short_words n) w.cells in
-    let ca : right_checks 1 a ≡ true = checks_one a na (block_right (opening headKind 0) (head_payload u) (omega (arith, length_payload u w.variables_few))) in
-    let cp : right_checks (blocks_for short_words (rows_in u)) p ≡ true = ap (λ (n : ℕ). right_checks (blocks_for short_words n) p) (sym w.rows) ∙ table_right hKind short_word short_words h_first hs (omega arith) in
-    let cq : right_checks (blocks_for short_words u.cells) q ≡ true = ap (λ (n : ℕ). right_checks (blocks_for short_words n) q) (sym w.cells) ∙ table_right gKind short_word short_words (g_first u) gs (omega arith) in
-    let cr : right_checks (blocks_for long_words (words_in u)) r ≡ true = ap (λ (n : ℕ). right_checks (blocks_for long_words n) r) (sym w.words) ∙ table_right auxKind long_word long_words (aux_first u) ws (omega arith) in
+    let np : length p ≡ block_size * blocks_for short_words (rows_in u) = length_table h_kind short_word short_words h_first hs (omega arith) ∙ ap (λ (n : ℕ). block_size * blocks_for short_words n) w.rows in
+    let nq : length q ≡ block_size * blocks_for short_words u.cells = length_table g_kind short_word short_words (g_first u) gs (omega arith) ∙ ap (λ (n : ℕ). block_size * blocks_for short_words n) w.cells in
+    let ca : right_checks 1 a ≡ true = checks_one a na (block_right (opening head_kind 0) (head_payload u) (omega (arith, length_payload u w.variables_few))) in
+    let cp : right_checks (blocks_for short_words (rows_in u)) p ≡ true = ap (λ (n : ℕ). right_checks (blocks_for short_words n) p) (sym w.rows) ∙ table_right h_kind short_word short_words h_first hs (omega arith) in
+    let cq : right_checks (blocks_for short_words u.cells) q ≡ true = ap (λ (n : ℕ). right_checks (blocks_for short_words n) q) (sym w.cells) ∙ table_right g_kind short_word short_words (g_first u) gs (omega arith) in
+    let cr : right_checks (blocks_for long_words (words_in u)) r ≡ true = ap (λ (n : ℕ). right_checks (blocks_for long_words n) r) (sym w.words) ∙ table_right aux_kind long_word long_words (aux_first u) ws (omega arith) in
     let c₁ : right_checks (g_first u) (a ++ p) ≡ true = checks_both 1 (blocks_for short_words (rows_in u)) a p (omega arith) ca cp in
     let c₂ : right_checks (aux_first u) (a ++ p ++ q) ≡ true = checks_both (g_first u) (blocks_for short_words u.cells) (a ++ p) q (length-append a p ∙ omega arith) c₁ cq in
     checks_both (aux_first u) (blocks_for long_words (words_in u)) (a ++ p ++ q) r (length-append (a ++ p) q ∙ omega (arith, length-append a p)) c₂ cr

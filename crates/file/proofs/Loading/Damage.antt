@@ -16,7 +16,7 @@ use Rattle.record.specs.Tables.{Tables}
 use Rattle.record.specs.Formed.{sound}
 use Rattle.block.specs.Bytes.{value_of, number_at}
 use Rattle.block.specs.Block.{block_size}
-use Rattle.file.specs.Layout.{n1At, kAt, cellsAt}
+use Rattle.file.specs.Layout.{n1_at, k_at, cells_at}
 use Rattle.file.specs.File.{blocks_in, size_of, file_of}
 use Rattle.file.specs.Decode.{record_in, tables_in}
 use Rattle.file.specs.Read.{Reading, no_blocks, right_checks, refused_read, read_of}
@@ -56,9 +56,9 @@ number_cut k at m file h = ap value_of (part_take k at m file h)
 size_cut : (m : ℕ) (file : List ℕ) → block_size ≤ m → size_of (record_in (take m file)) ≡ size_of (record_in file)
 unfolding record_in record_of
 size_cut m file h =
-    let a : number_at 1 n1At (take m file) ≡ number_at 1 n1At file = number_cut 1 n1At m file (omega arith) in
-    let b : number_at 2 kAt (take m file) ≡ number_at 2 kAt file = number_cut 2 kAt m file (omega arith) in
-    let c : number_at 2 cellsAt (take m file) ≡ number_at 2 cellsAt file = number_cut 2 cellsAt m file (omega arith) in
+    let a : number_at 1 n1_at (take m file) ≡ number_at 1 n1_at file = number_cut 1 n1_at m file (omega arith) in
+    let b : number_at 2 k_at (take m file) ≡ number_at 2 k_at file = number_cut 2 k_at m file (omega arith) in
+    let c : number_at 2 cells_at (take m file) ≡ number_at 2 cells_at file = number_cut 2 cells_at m file (omega arith) in
     rw (a, b, c)
 
 size_carried : (u : Record) → size_of (carried_record u) ≡ size_of u

@@ -21,7 +21,7 @@ use Rattle.block.specs.Bytes.{number_at}
 use Rattle.block.specs.Block.{block_size, same, right_check, short_word, long_word, short_words, long_words}
 use Rattle.block.proofs.Reading.Same.{same_other, same_append}
 use Rattle.block.proofs.Reading.Numbers.{Bytes}
-use Rattle.file.specs.Layout.{hKind, gKind, auxKind, p_at}
+use Rattle.file.specs.Layout.{h_kind, g_kind, aux_kind, p_at}
 use Rattle.file.specs.File.{head_of, blocks_for, stack, table_block, table_of, rows_in, words_in, h_first, g_first, aux_first, size_of, file_with, file_of}
 use Rattle.file.specs.Decode.{record_in, table_in, tables_in}
 use Rattle.file.specs.Read.{right_checks, is_file}
@@ -46,13 +46,13 @@ checks_at (suc m) file h (suc i) l =
 
 module _ (u : Record) (file : List ℕ) where
   abbrev pub h_laid : Bool
-  h_laid = table_laid (blocks_for short_words (rows_in u)) hKind h_first (short_word * rows_in u) file
+  h_laid = table_laid (blocks_for short_words (rows_in u)) h_kind h_first (short_word * rows_in u) file
 
   abbrev pub g_laid : Bool
-  g_laid = table_laid (blocks_for short_words u.cells) gKind (g_first u) (short_word * u.cells) file
+  g_laid = table_laid (blocks_for short_words u.cells) g_kind (g_first u) (short_word * u.cells) file
 
   abbrev pub aux_laid : Bool
-  aux_laid = table_laid (blocks_for long_words (words_in u)) auxKind (aux_first u) (long_word * words_in u) file
+  aux_laid = table_laid (blocks_for long_words (words_in u)) aux_kind (aux_first u) (long_word * words_in u) file
 
   -- another length
   pub laid_no : (length file ≡ size_of u → ⊥) → laid_by u file ≡ false
@@ -82,7 +82,7 @@ four_same a p q r a' p' q' r' na np nq =
 
 -- the parts of a file
 file_parts : (u : Record) (h g aux : List ℕ)
-    → file_with u h g aux ≡ head_of u ++ table_of hKind short_word short_words h_first h ++ table_of gKind short_word short_words (g_first u) g ++ table_of auxKind long_word long_words (aux_first u) aux
+    → file_with u h g aux ≡ head_of u ++ table_of h_kind short_word short_words h_first h ++ table_of g_kind short_word short_words (g_first u) g ++ table_of aux_kind long_word long_words (aux_first u) aux
 unfolding file_with
 file_parts u h g aux = refl
 
@@ -162,13 +162,13 @@ module _ (file : List ℕ) (long : block_size ≤ length file) (checks : right_c
           ∙ table_same kind size per file fits bytes (blocks_for per count) first count room (λ i l. right_at i (omega arith))
 
       abbrev p : List ℕ
-      p = table_of hKind short_word short_words h_first t.h
+      p = table_of h_kind short_word short_words h_first t.h
 
       abbrev q : List ℕ
-      q = table_of gKind short_word short_words (g_first u) t.g
+      q = table_of g_kind short_word short_words (g_first u) t.g
 
       abbrev r : List ℕ
-      r = table_of auxKind long_word long_words (aux_first u) t.aux
+      r = table_of aux_kind long_word long_words (aux_first u) t.aux
 
       -- a table is as long as its blocks
       table_long : (kind bytes per first count : ℕ) (ws : List ℕ) → bytes * per ≡ 504 → length ws ≡ count → block_size * (first + blocks_for per count) ≤ length file
@@ -192,13 +192,13 @@ module _ (file : List ℕ) (long : block_size ≤ length file) (checks : right_c
           in_four block_size a b c file (omega arith) ∙ ap₂ (λ (i j : ℕ). hb ++ pb ++ take b (drop i file) ++ take c (drop j file)) eg ea in
           ap₂ same (file_whole u t rows_held cells_held words_held ∙ file_parts u t.h t.g t.aux) cut
           ∙ four_same (head_of u) p q r hb pb qb rb (length_head u (omega (arith, many, (in_bounds u R.in_bounds).few)) ∙ sym (length-take-le block_size file long))
-          (table_long hKind short_word short_words h_first (rows_in u) t.h refl rows_held (omega arith))
-          (table_long gKind short_word short_words (g_first u) u.cells t.g refl cells_held (omega arith))
+          (table_long h_kind short_word short_words h_first (rows_in u) t.h refl rows_held (omega arith))
+          (table_long g_kind short_word short_words (g_first u) u.cells t.g refl cells_held (omega arith))
           ∙ ap₂ (λ (x y : Bool). x && y)
           (ap₂ (λ (x y : Bool). x && y)
-          (ap₂ (λ (x y : Bool). x && y) (head_same file long bytes few (right_at 0 (omega arith))) (table_is hKind short_word short_words h_first (rows_in u) t.h refl h_is rows_held (omega arith)))
-          (table_is gKind short_word short_words (g_first u) u.cells t.g refl g_is cells_held (omega arith)))
-          (table_is auxKind long_word long_words (aux_first u) (words_in u) t.aux refl aux_is words_held (omega arith))
+          (ap₂ (λ (x y : Bool). x && y) (head_same file long bytes few (right_at 0 (omega arith))) (table_is h_kind short_word short_words h_first (rows_in u) t.h refl h_is rows_held (omega arith)))
+          (table_is g_kind short_word short_words (g_first u) u.cells t.g refl g_is cells_held (omega arith)))
+          (table_is aux_kind long_word long_words (aux_first u) (words_in u) t.aux refl aux_is words_held (omega arith))
           ∙ sym (laid_yes u file size)
 
     pub file_laid : is_file file ≡ laid_by u file

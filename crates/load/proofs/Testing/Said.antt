@@ -17,7 +17,7 @@ use Rattle.record.proofs.Formed.{in_bounds}
 use Rattle.record.proofs.Marks.{kinds_in_lem}
 use Rattle.record.proofs.Soundness.{Right, right_says, right_unbound, kept_same}
 use Rattle.block.specs.Bytes.{number_at}
-use Rattle.file.specs.Layout.{nAt, p_at, n1At, variablesAt}
+use Rattle.file.specs.Layout.{n_at, p_at, n1_at, variables_at}
 use Rattle.file.specs.Decode.{kind_of, kinds_from, record_in}
 use Rattle.load.specs.Inner.Said.{kinds_said, said_in}
 
@@ -36,26 +36,26 @@ kinds_front (suc p) d at file =
 
 module _ (file : List ℕ) where
   abbrev n : ℕ
-  n = number_at 1 nAt file
+  n = number_at 1 n_at file
 
   abbrev p : ℕ
   p = number_at 1 p_at file
 
   abbrev ks : List Kind
-  ks = kinds_from p variablesAt file
+  ks = kinds_from p variables_at file
 
   -- the decoded variables
   pub kinds_are : kinds_in (record_in file) ≡ ks
   unfolding record_in record_of
-  kinds_are = kinds_in_lem (number_at 1 n1At file) ks
+  kinds_are = kinds_in_lem (number_at 1 n1_at file) ks
 
   pub many_are : (record_in file).p ≡ p
   unfolding record_in record_of
-  many_are = length_kinds p variablesAt file
+  many_are = length_kinds p variables_at file
 
   bounds_same : is_in_bounds (said_in file) ≡ is_in_bounds (record_in file)
   unfolding said_in record_in record_of
-  bounds_same = rw (length_kinds p variablesAt file)
+  bounds_same = rw (length_kinds p variables_at file)
 
   module _ (b : is_in_bounds (said_in file) ≡ true) where
     few : p ≤ max_variables
@@ -65,15 +65,15 @@ module _ (file : List ℕ) where
     kinds_said_lem : kinds_said file ≡ ks
     kinds_said_lem =
         let e : p + (max_variables - p) ≡ max_variables = omega (arith, few) in
-        rw e at (kinds_front p (max_variables - p) variablesAt file)
+        rw e at (kinds_front p (max_variables - p) variables_at file)
 
     variables_same : (said_in file).variables ≡ (record_in file).variables
     unfolding said_in record_in record_of
-    variables_same = ap (variables_of (number_at 1 n1At file)) kinds_said_lem
+    variables_same = ap (variables_of (number_at 1 n1_at file)) kinds_said_lem
 
     kinds_same : kinds_in (said_in file) ≡ kinds_in (record_in file)
     unfolding said_in record_in record_of
-    kinds_same = ap₂ (λ (i : ℕ) (l : List Variable). kinds_of (take i l)) (sym (length_kinds p variablesAt file)) variables_same
+    kinds_same = ap₂ (λ (i : ℕ) (l : List Variable). kinds_of (take i l)) (sym (length_kinds p variables_at file)) variables_same
 
     numbers_same : (said_in file).n ≡ (record_in file).n
     unfolding said_in record_in record_of
@@ -103,4 +103,4 @@ module _ (file : List ℕ) where
       let e : kinds_said file ≡ kinds_in (record_in file) = kinds_said_lem b ∙ sym kinds_are in
       let k : kept (inputs_in n) (map (within (inputs_in n)) (kinds_said file)) ≡ kept n ks =
       ap (λ (l : List Kind). kept (inputs_in n) (map (within (inputs_in n)) l)) e ∙ kept_same (record_in file) r ∙ ap (kept n) kinds_are in
-      cc (kinds_said_lem b, length_kinds p variablesAt file)
+      cc (kinds_said_lem b, length_kinds p variables_at file)

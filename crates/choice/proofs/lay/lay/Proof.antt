@@ -6,7 +6,7 @@ use mathlib.Core.Path.{◌≡◌, sym, ap, ◌∙◌}
 use mathlib.Core.List.{List}
 use lib.ListN.{length, take, length-take}
 use Rattle.lists.specs.Cut.{cut}
-use Rattle.choice.specs.Inner.Layout.{endsOf}
+use Rattle.choice.specs.Inner.Layout.{ends_of}
 use Rattle.choice.specs.Inner.Gain.{most_of, small_most}
 use Rattle.choice.specs.Inner.Judged.{max_gain}
 use Rattle.choice.proofs.Counting.Halves.{halves, halves_low}
@@ -18,7 +18,7 @@ use Rattle.choice.proofs.lay.lay.Tie as tie
 -- the halves of the large groups and of the small ones
 parts : (c : tie.After-lay-whole)
     → let a = c.before.before.before.before.before.before.before.before.args in
-    most_of (endsOf (cut a.sizes.now a.words.now)) + small_most (cut a.sizes.now a.words.now) ≡ a.most
+    most_of (ends_of (cut a.sizes.now a.words.now)) + small_most (cut a.sizes.now a.words.now) ≡ a.most
 parts c = let p = c.before.before.before.before.before.before.before.before.requires.0 in halves _ _ p.0.sum ∙ sym p.1
 
 low : (c : tie.After-lay-whole) → c.before.before.before.before.before.before.before.before.args.most ≤ max_gain

@@ -8,7 +8,7 @@ use lib.ListN.{length, get_or}
 use Rattle.lists.specs.Cut.{cut}
 use Rattle.lists.proofs.Writing.Over.{filling_length}
 use Rattle.lists.proofs.Entries.Walk.{walk_fits}
-use Rattle.choice.specs.Inner.Layout.{items_of, maxBlocks}
+use Rattle.choice.specs.Inner.Layout.{items_of, max_blocks}
 use Rattle.choice.proofs.Laying.Room.{items_room, whole_room}
 use Rattle.choice.proofs.Laying.Small.{Adding, adding_none, adding_end, adding_bounds, adding_part, adding_left, adding_within, adding_block, adding_next, adding_large}
 use Rattle.choice.proofs.lay.lay_pairs.Statement.{statement}
@@ -71,7 +71,7 @@ mul_if2 : tie.Need-overflow-mul-if2 invariant_loop decreases_loop
 mul_if2 c = omega (arith, c.before.before.before.before.before.before.before.before.loop.invariant.few)
 
 -- a block that is reached has a place for its rest
-reached : (c : tie.Then2 invariant_loop decreases_loop) → c.before.before.before.before.before.before.before.before.before.loop.b < maxBlocks
+reached : (c : tie.Then2 invariant_loop decreases_loop) → c.before.before.before.before.before.before.before.before.before.loop.b < max_blocks
 reached c =
     let l = c.before.before.before.before.before.before.before.before.before in
     let s = l.before.before.before.before.before in

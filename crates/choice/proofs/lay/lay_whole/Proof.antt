@@ -7,14 +7,14 @@ use lib.ListN.{length, get_or, length-replicate}
 use Rattle.lists.specs.Cut.{cut}
 use Rattle.lists.proofs.Writing.Over.{filling_length}
 use Rattle.lists.proofs.Entries.Walk.{lent, walk_fits}
-use Rattle.choice.specs.Inner.Layout.{wholeItems, maxBlocks}
+use Rattle.choice.specs.Inner.Layout.{whole_items, max_blocks}
 use Rattle.choice.proofs.Laying.Room.{whole_room, ends_room}
 use Rattle.choice.proofs.Laying.Whole.{Laying, laying_none, laying_end, laying_small, laying_part, laying_room, laying_zeros, laying_large}
 use Rattle.choice.proofs.lay.lay_whole.Statement.{statement}
 use Rattle.choice.proofs.lay.lay_whole.Tie as tie
 
 abbrev invariant_loop : tie.invariant-loop
-invariant_loop words sizes items₀ ends₀ whole₀ from₀ g₀ items ends whole from g = Laying items₀ maxBlocks sizes words items ends whole from g
+invariant_loop words sizes items₀ ends₀ whole₀ from₀ g₀ items ends whole from g = Laying items₀ max_blocks sizes words items ends whole from g
 
 abbrev decreases_loop : tie.decreases-loop
 decreases_loop words sizes items₀ ends₀ whole₀ from₀ g₀ items ends whole from g = length sizes - g
@@ -26,7 +26,7 @@ to : (c : tie.In-loop invariant_loop decreases_loop)
 to c = walk_fits c.before.loop.invariant.walk 0 c.loop-test.true
 
 -- all large groups have room
-room : (s : tie.Start invariant_loop decreases_loop) → length (wholeItems (cut s.args.sizes.now s.args.words.now)) ≤ length s.args.items.now
+room : (s : tie.Start invariant_loop decreases_loop) → length (whole_items (cut s.args.sizes.now s.args.words.now)) ≤ length s.args.items.now
 room s = omega (arith, whole_room s.requires.0, s.requires.1.0)
 
 -- where a large group is laid
@@ -45,14 +45,14 @@ module _ (c : tie.Then1 invariant_loop decreases_loop) where
       laying_part _ _ _ _ l.loop.items l.loop.ends l.loop.whole l.loop.from l.loop.g l.loop.inv 0 c.before.before.loop-test.true c.if1.true (room s)
       (ends_room s.pre.0)
 
-  ends_fit : l.loop.whole + (size + 63) / 64 ≤ maxBlocks
+  ends_fit : l.loop.whole + (size + 63) / 64 ≤ max_blocks
   ends_fit =
       omega (
         arith,
         laying_room _ _ _ _ l.loop.items l.loop.ends l.loop.whole l.loop.from l.loop.g l.loop.inv 0 c.before.before.loop-test.true c.if1.true (room s)
             (ends_room s.pre.0),
         filling_length l.loop.inv.ends_are,
-        length-replicate {A = ℕ} maxBlocks 0,
+        length-replicate {A = ℕ} max_blocks 0,
       )
 
   zeros_fit : 64 * (l.loop.whole + (size + 63) / 64) ≤ length l.loop.items
@@ -60,10 +60,10 @@ module _ (c : tie.Then1 invariant_loop decreases_loop) where
       laying_zeros _ _ _ _ l.loop.items l.loop.ends l.loop.whole l.loop.from l.loop.g l.loop.inv 0 c.before.before.loop-test.true c.if1.true (room s)
       (ends_room s.pre.0)
 
-  ends_long : length l.loop.ends ≡ maxBlocks
-  ends_long = filling_length l.loop.inv.ends_are ∙ length-replicate {A = ℕ} maxBlocks 0
+  ends_long : length l.loop.ends ≡ max_blocks
+  ends_long = filling_length l.loop.inv.ends_are ∙ length-replicate {A = ℕ} max_blocks 0
 
-  items_long : length l.loop.items ≡ 64 * maxBlocks
+  items_long : length l.loop.items ≡ 64 * max_blocks
   items_long = filling_length l.loop.inv.items_are ∙ s.pre.1.0
 
 -- the same place, from further on

@@ -10,7 +10,7 @@ use Rattle.choice.specs.Choice.{candidates}
 use Rattle.vectors.specs.Bounds.{max_inputs, max_variables, max_vectors}
 use Rattle.choice.specs.Inner.Best.{Searched}
 use Rattle.choice.specs.Inner.Groups.{sizes_of, order_of, groups_of}
-use Rattle.choice.specs.Inner.Layout.{maxBlocks}
+use Rattle.choice.specs.Inner.Layout.{max_blocks}
 use Rattle.choice.specs.Inner.Ties.{Ties}
 use Rattle.choice.proofs.Choosing.Stage.{Stage, stage_none, stage_more, stage_ties, stage_stop, stage_end}
 use Rattle.choice.proofs.Choosing.Ties.{best_sound, ties_none, ties_words}
@@ -19,7 +19,7 @@ use Rattle.choice.proofs.rule.choose.Tie as tie
 
 abbrev invariant_loop : tie.invariant-loop
 invariant_loop vectors n degree words₀ items₀ variables₀ groups₀ tied₀ p₀ words items variables groups tied p =
-    (length words ≡ 1024) × (length items ≡ 64 * maxBlocks) × Stage vectors (candidates n degree) groups variables p
+    (length words ≡ 1024) × (length items ≡ 64 * max_blocks) × Stage vectors (candidates n degree) groups variables p
     × Ties tied (λ i. get_or vectors i 0) (groups_of groups)
 
 abbrev decreases_loop : tie.decreases-loop

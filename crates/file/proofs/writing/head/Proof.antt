@@ -10,14 +10,14 @@ use Rattle.block.proofs.Laying.Words.{length_opened}
 use Rattle.vectors.specs.Bounds.{max_variables}
 use Rattle.vectors.proofs.Variables.Numbers.{kinds_many}
 use Rattle.record.specs.Record.{kinds_in}
-use Rattle.file.specs.Layout.{lettersAt}
+use Rattle.file.specs.Layout.{letters_at}
 use Rattle.file.proofs.Laying.Heads.{fields_of, head_is}
 use Rattle.file.proofs.writing.head.Statement.{statement}
 use Rattle.file.proofs.writing.head.Tie as tie
 
 -- the fields are laid into a whole block
-fields_long : (c : tie.After-opened) → length (sets c.opened.result lettersAt (fields_of c.before.args.unit)) ≡ block_size
-fields_long c = length-sets c.opened.result lettersAt (fields_of c.before.args.unit) ∙ length_opened _ _ c.opened.ensures
+fields_long : (c : tie.After-opened) → length (sets c.opened.result letters_at (fields_of c.before.args.unit)) ≡ block_size
+fields_long c = length-sets c.opened.result letters_at (fields_of c.before.args.unit) ∙ length_opened _ _ c.opened.ensures
 
 slice_aggregate_put_variables : tie.Need-slice-aggregate-put-variables
 slice_aggregate_put_variables c = sym (fields_long c.before.before.before.before.before.before.before.before.before.before.before.before.before)

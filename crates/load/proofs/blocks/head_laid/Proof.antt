@@ -8,14 +8,14 @@ use borrow.Author.Tests.{not-true, not-false}
 use borrow.Author.Rules.{rules}
 use Rattle.block.specs.Block.{block_size}
 use Rattle.block.specs.Look.{laid_out}
-use Rattle.file.specs.Layout.{headKind, markAt, freeAt}
+use Rattle.file.specs.Layout.{head_kind, mark_at, free_at}
 use Rattle.file.specs.File.{opening}
 use Rattle.load.specs.Inner.Laid.{has_letters}
 use Rattle.load.proofs.Lettering.{head_told}
 use Rattle.load.proofs.blocks.head_laid.Statement.{statement}
 use Rattle.load.proofs.blocks.head_laid.Tie as tie
 
-opened : (c : tie.Else1) → laid_out (opening headKind 0) freeAt (take block_size c.before.before.before.before.args.file.now) ≡ true
+opened : (c : tie.Else1) → laid_out (opening head_kind 0) free_at (take block_size c.before.before.before.before.args.file.now) ≡ true
 opened c = sym c.before.laid.ensures ∙ not-false _ c.if1.false
 
 lettered : (c : tie.Else2) → has_letters c.before.before.before.before.before.before.args.file.now ≡ true
@@ -31,7 +31,7 @@ returns_2 : tie.Need-returns-2
 returns_2 c = sym (head_told _ _ (opened c.before.before) (sym c.before.has-letters.ensures ∙ not-true _ c.if2.true) refl)
 
 slice_aggregate_blank : tie.Need-slice-aggregate-blank
-slice_aggregate_blank c = let s = c.before.before.before.before.before.before.before in sym (length-take-le markAt s.args.file.now (omega (arith, s.requires.1)))
+slice_aggregate_blank c = let s = c.before.before.before.before.before.before.before in sym (length-take-le mark_at s.args.file.now (omega (arith, s.requires.1)))
 
 returns_3 : tie.Need-returns-3
 returns_3 c = sym (head_told _ _ (opened c.before.before.before.before.before) (lettered c.before.before.before) (sym c.before.blank.ensures ∙ not-true _ c.if3.true))

@@ -15,7 +15,7 @@ use Rattle.record.specs.Formed.{right_record}
 use Rattle.record.proofs.Formed.{Numbers, numbers, in_bounds}
 use Rattle.record.proofs.Soundness.{right_says}
 use Rattle.block.specs.Block.{short_word, long_words}
-use Rattle.file.specs.Layout.{hKind, gKind, auxKind}
+use Rattle.file.specs.Layout.{h_kind, g_kind, aux_kind}
 use Rattle.file.specs.File.{blocks_for, rows_in, words_in, h_first, g_first, aux_first, blocks_in, size_of}
 use Rattle.file.specs.Read.{is_file}
 use Rattle.file.specs.declared.layout.Starts.{Starts}
@@ -73,21 +73,21 @@ head_told : (c : tie.Else3) → head_laid c.before.before.before.before.before.b
 head_told c = sym c.before.head-laid.ensures ∙ not-false _ c.if3.false
 
 h_told : (c : tie.After-table-laid) → c.table-laid.result ≡ h_laid c.before.before.before.before.before.before.before.before.before.before.args.unit c.before.before.before.before.before.before.before.before.before.before.args.file.now
-h_told c = c.table-laid.ensures ∙ ap₂ (λ (m n : ℕ). table_laid m hKind h_first n c.before.before.before.before.before.before.before.before.before.before.args.file.now) (omega (arith, g_is c.before.before.before.before.before.before)) (power c.before.before.before.before.before.before.before)
+h_told c = c.table-laid.ensures ∙ ap₂ (λ (m n : ℕ). table_laid m h_kind h_first n c.before.before.before.before.before.before.before.before.before.before.args.file.now) (omega (arith, g_is c.before.before.before.before.before.before)) (power c.before.before.before.before.before.before.before)
 
 g_told : (c : tie.After-table-laid2) → c.table-laid2.result ≡ g_laid c.before.before.before.before.before.before.before.before.before.before.before.before.before.args.unit c.before.before.before.before.before.before.before.before.before.before.before.before.before.args.file.now
 g_told c =
     let u = c.before.before.before.before.before.before.before.before.before.before.before.before.before.args.unit in
     c.table-laid2.ensures
-    ∙ ap₂ (λ (m i : ℕ). table_laid m gKind i (2 * u.cells) c.before.before.before.before.before.before.before.before.before.before.before.before.before.args.file.now) (omega (arith, g_is c.before.before.before.before.before.before.before.before.before, aux_is c.before.before.before.before.before.before.before.before.before)) (g_is c.before.before.before.before.before.before.before.before.before)
+    ∙ ap₂ (λ (m i : ℕ). table_laid m g_kind i (2 * u.cells) c.before.before.before.before.before.before.before.before.before.before.before.before.before.args.file.now) (omega (arith, g_is c.before.before.before.before.before.before.before.before.before, aux_is c.before.before.before.before.before.before.before.before.before)) (g_is c.before.before.before.before.before.before.before.before.before)
 
 aux_told : (c : tie.After-table-laid3) → c.table-laid3.result ≡ aux_laid c.before.before.before.before.before.before.before.before.before.before.before.before.before.before.before.before.args.unit c.before.before.before.before.before.before.before.before.before.before.before.before.before.before.before.before.args.file.now
 aux_told c =
     let u = c.before.before.before.before.before.before.before.before.before.before.before.before.before.before.before.before.args.unit in
     let m : c.before.before.before.before.before.before.before.before.before.before.before.before.plan.result.past - c.before.before.before.before.before.before.before.before.before.before.before.before.plan.result.aux ≡ blocks_for long_words (words_in u) = omega (arith, past_is c.before.before.before.before.before.before.before.before.before.before.before.before, aux_is c.before.before.before.before.before.before.before.before.before.before.before.before) in
     c.table-laid3.ensures
-    ∙ ap₂ (λ (m i : ℕ). table_laid m auxKind i (8 * (u.k + 1)) c.before.before.before.before.before.before.before.before.before.before.before.before.before.before.before.before.args.file.now) m (aux_is c.before.before.before.before.before.before.before.before.before.before.before.before)
-    ∙ ap (λ (n : ℕ). table_laid (blocks_for long_words (words_in u)) auxKind (aux_first u) (8 * n) c.before.before.before.before.before.before.before.before.before.before.before.before.before.before.before.before.args.file.now) (add-one u.k)
+    ∙ ap₂ (λ (m i : ℕ). table_laid m aux_kind i (8 * (u.k + 1)) c.before.before.before.before.before.before.before.before.before.before.before.before.before.before.before.before.args.file.now) m (aux_is c.before.before.before.before.before.before.before.before.before.before.before.before)
+    ∙ ap (λ (n : ℕ). table_laid (blocks_for long_words (words_in u)) aux_kind (aux_first u) (8 * n) c.before.before.before.before.before.before.before.before.before.before.before.before.before.before.before.before.args.file.now) (add-one u.k)
 
 returns : tie.Need-returns
 returns c =

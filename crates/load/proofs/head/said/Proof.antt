@@ -7,7 +7,7 @@ use borrow.Author.Rules.{rules}
 use Rattle.lists.proofs.Entries.Alls.{at_all}
 use Rattle.block.proofs.Reading.Numbers.{Bytes}
 use Rattle.block.proofs.Reading.Places.{number_low}
-use Rattle.file.specs.Layout.{p_at, kAt}
+use Rattle.file.specs.Layout.{p_at, k_at}
 use Rattle.load.proofs.Naming.{said_made}
 use Rattle.load.proofs.head.said.Statement.{statement}
 use Rattle.load.proofs.head.said.Tie as tie
@@ -19,7 +19,7 @@ cast_excess : tie.Need-overflow-cast-excess
 cast_excess c = omega (arith, c.before.before.before.before.before.before.number2.ensures, number_low 1 p_at c.before.before.before.before.before.before.before.before.before.args.file.now (bytes c.before.before.before.before.before.before.before.before))
 
 cast_excess_2 : tie.Need-overflow-cast-excess-2
-cast_excess_2 c = omega (arith, c.before.before.before.before.number4.ensures, number_low 2 kAt c.before.before.before.before.before.before.before.before.before.args.file.now (bytes c.before.before.before.before.before.before.before.before))
+cast_excess_2 c = omega (arith, c.before.before.before.before.number4.ensures, number_low 2 k_at c.before.before.before.before.before.before.before.before.before.args.file.now (bytes c.before.before.before.before.before.before.before.before))
 
 returns : tie.Need-returns
 returns c =

@@ -1,0 +1,20 @@
+use native.Mathlib.Omega.{arith}
+use mathlib.Core.Path.{◌∙◌}
+use Rattle.block.specs.Block.{short_word, short_words}
+use Rattle.block.proofs.Laying.Words.{laying_none, laying_more, laying_end, other_length}
+use Rattle.block.proofs.fill16.Goals as goal
+
+pub returns-then-block-ne-SIZE : goal.returns-then-block-ne-SIZE
+returns-then-block-ne-SIZE c = other_length _ _ c.if-block-ne-SIZE.true
+
+pub loop-i-init : goal.loop-i-init
+loop-i-init c = laying_none short_word _ _ _ (c.put_opening.auto.block ∙ c.if-block-ne-SIZE.false)
+
+pub overflow_cast-words : goal.overflow_cast-words
+overflow_cast-words c = omega (arith, c.shared_slice_known-in-loop-i-1.given c.loop-i.i)
+
+pub loop-i-preserved : goal.loop-i-preserved
+loop-i-preserved c = laying_more short_word _ _ _ _ _ _ (omega arith) (omega (arith, c.least-last.ensures)) c.loop-i.invariant c.put.ensures
+
+pub returns : goal.returns
+returns c = laying_end short_word short_words _ _ _ _ _ _ _ _ _ (omega arith) c.if-block-ne-SIZE.false c.put_opening.ensures c.least-last.ensures (omega arith) c.loop-i.invariant c.clear.ensures c.seal.ensures
