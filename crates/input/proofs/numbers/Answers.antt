@@ -24,12 +24,12 @@ first c = let s = start c in next _ 0 c.number_at-n.result c.number_at-n.ensures
 
 second : (c : After-number_at-degree) → Next (start (View.up-After-number_at-n _ _ _ _ c.before.before.before)).args.text.now (c.number_at-n.result.end + 1) c.number_at-degree.result
 second c =
-    next _ _ c.number_at-degree.result c.number_at-degree.ensures (first (View.up-After-number_at-n _ _ _ _ c.before.before.before)).well_formed_lem (omega (arith, (first (View.up-After-number_at-n _ _ _ _ c.before.before.before)).size, first_size (start (View.up-After-number_at-n _ _ _ _ c.before.before.before)), (start (View.up-After-number_at-n _ _ _ _ c.before.before.before)).requires.2))
+    next _ _ c.number_at-degree.result c.number_at-degree.ensures (first (View.up-After-number_at-n _ _ _ _ c.before.before.before)).good (omega (arith, (first (View.up-After-number_at-n _ _ _ _ c.before.before.before)).size, first_size (start (View.up-After-number_at-n _ _ _ _ c.before.before.before)), (start (View.up-After-number_at-n _ _ _ _ c.before.before.before)).requires.2))
 
 third : (c : After-number_at-cells) → Next (start (View.up-After-number_at-n _ _ _ _ c.before.before.before.before.before)).args.text.now (c.number_at-degree.result.end + 1) c.number_at-cells.result
 third c =
     let s = start (View.up-After-number_at-n _ _ _ _ c.before.before.before.before.before) in
-    next _ _ c.number_at-cells.result c.number_at-cells.ensures (second (View.up-After-number_at-degree _ _ _ _ c.before.before.before)).well_formed_lem (omega (arith, (second (View.up-After-number_at-degree _ _ _ _ c.before.before.before)).size, (first (View.up-After-number_at-n _ _ _ _ c.before.before.before.before.before)).size, first_size s, s.requires.2))
+    next _ _ c.number_at-cells.result c.number_at-cells.ensures (second (View.up-After-number_at-degree _ _ _ _ c.before.before.before)).good (omega (arith, (second (View.up-After-number_at-degree _ _ _ _ c.before.before.before)).size, (first (View.up-After-number_at-n _ _ _ _ c.before.before.before.before.before)).size, first_size s, s.requires.2))
 
 pub overflow_add-n : goal.overflow_add-n
 overflow_add-n c = omega (arith, (first (goal.at.overflow_add-n c).After-number_at-n).low, (start (goal.at.overflow_add-n c).After-number_at-n).requires.0)
@@ -43,7 +43,7 @@ overflow_add-cells c = omega (arith, (second (goal.at.overflow_add-cells c).Afte
 pub list-requires : goal.list-requires
 list-requires c =
     let s = start (goal.at.list-requires c).After-number_at-n in
-    (s.requires.0, (third (goal.at.list-requires c).After-number_at-cells).well_formed_lem, omega (arith, s.requires.2, first_size s, (first (goal.at.list-requires c).After-number_at-n).size, (second (goal.at.list-requires c).After-number_at-degree).size, (third (goal.at.list-requires c).After-number_at-cells).size))
+    (s.requires.0, (third (goal.at.list-requires c).After-number_at-cells).good, omega (arith, s.requires.2, first_size s, (first (goal.at.list-requires c).After-number_at-n).size, (second (goal.at.list-requires c).After-number_at-degree).size, (third (goal.at.list-requires c).After-number_at-cells).size))
 
 pub returns : goal.returns
 returns c =
