@@ -26,7 +26,7 @@ is_sound : (c : Else-not-sound) → sound c.args.unit (tables c.before.before.be
 is_sound c = sym c.sound.ensures ∙ c.if-not-sound.false
 
 formed : (c : Else-not-sound) → well_formed c.args.unit (tables c.before.before.before.before.before.before) ≡ true
-formed c = (sound_says c.args.unit (tables c.before.before.before.before.before.before) (is_sound c)).good
+formed c = (sound_says c.args.unit (tables c.before.before.before.before.before.before) (is_sound c)).well_formed_lem
 
 facts : (c : Else-not-sound) → WellFormed c.args.unit (tables c.before.before.before.before.before.before)
 facts c = well_formed_facts c.args.unit (tables c.before.before.before.before.before.before) (formed c)
@@ -80,9 +80,9 @@ overflow_cast-number c = omega (arith, turn_low (turn c))
 
 pub returns-then-number-eq0 : goal.returns-then-number-eq0
 returns-then-number-eq0 c = record {
-      value = turn_none (turn (goal.at.returns-then-number-eq0 c).After-number-1) c.if-number-eq0.true;
-      firsts_after = firsts_are (goal.at.returns-then-number-eq0 c).After-first_cells;
-    }
+  value = turn_none (turn (goal.at.returns-then-number-eq0 c).After-number-1) c.if-number-eq0.true;
+  firsts_after = firsts_are (goal.at.returns-then-number-eq0 c).After-first_cells;
+}
 
 pub offset_bounds-aux-i : goal.offset_bounds-aux-i
 offset_bounds-aux-i c = omega (arith, index_low (goal.at.offset_bounds-aux-i c).In-loop-i)

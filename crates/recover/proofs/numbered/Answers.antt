@@ -30,7 +30,7 @@ pub bounds-aux-i : goal.bounds-aux-i
 bounds-aux-i c = word_held (goal.at.bounds-aux-i c).Start
 
 pub from_cell-requires : goal.from_cell-requires
-from_cell-requires c = let f = facts (goal.at.from_cell-requires c).Start in (f.bounds, f.inputs, f.rows_held)
+from_cell-requires c = let f = facts (goal.at.from_cell-requires c).Start in record { formed = (f.bounds, f.inputs, f.rows_held) }
 
 pub returns : goal.returns
 returns c =

@@ -12,13 +12,13 @@ abbrev tables : Start → Tables
 tables s = lent s.args.h.now s.args.g.now s.args.aux.now
 
 formed : (c : Else-not-well_formed) → well_formed c.args.unit (tables c.before.before.before.before.before.before) ≡ true
-formed c = sym c.well-formed-2.ensures ∙ c.if-not-well_formed.false
+formed c = sym c.well_formed-2.ensures ∙ c.if-not-well_formed.false
 
 number_in : (c : Else-outside) → let a = c.args in outside 1 a.unit.k a.i ≡ false
 number_in c = sym c.outside.ensures ∙ c.if-outside.false
 
 pub returns-then-not-well_formed : goal.returns-then-not-well_formed
-returns-then-not-well_formed c = c.with_refusal.ensures ∙ recover_unformed _ _ _ (sym c.well-formed-2.ensures ∙ c.if-not-well_formed.true)
+returns-then-not-well_formed c = c.with_refusal.ensures ∙ recover_unformed _ _ _ (sym c.well_formed-2.ensures ∙ c.if-not-well_formed.true)
 
 pub returns-then-outside : goal.returns-then-outside
 returns-then-outside c =

@@ -66,7 +66,7 @@ overflow_cast-firsts c =
     omega (arith, first_low _ _ (is_listed (goal.at.overflow_cast-firsts c).Else-not-listed) c.loop-i.i _ c.loop-i-test.true (first_is (goal.at.overflow_cast-firsts c).Else-not-listed c.loop-i.i c.loop-i-test.true))
 
 pub from_cell-r-requires : goal.from_cell-r-requires
-from_cell-r-requires c = let f = facts (goal.at.from_cell-r-requires c).Else-not-listed in (f.bounds, f.inputs, f.rows_held)
+from_cell-r-requires c = let f = facts (goal.at.from_cell-r-requires c).Else-not-listed in record { formed = (f.bounds, f.inputs, f.rows_held) }
 
 pub offset_bounds-words-i : goal.offset_bounds-words-i
 offset_bounds-words-i c = omega (arith, c.loop-i-test.true, few (goal.at.offset_bounds-words-i c).Else-not-listed)

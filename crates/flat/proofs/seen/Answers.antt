@@ -1,0 +1,11 @@
+use mathlib.Core.Path.{sym, ◌∙◌}
+use Rattle.flat.proofs.Records.{unit_seen_lem, seen_unread}
+use Rattle.flat.proofs.seen.Goals as goal
+
+pub returns-then-not-readable : goal.returns-then-not-readable
+returns-then-not-readable c =
+    seen_unread _ _ (sym c.readable.ensures ∙ c.if-not-readable.true) c.blank-none.ensures
+
+pub returns : goal.returns
+returns c =
+    c.unit.ensures ∙ unit_seen_lem _ _ c.low_variables-v.ensures (sym c.readable.ensures ∙ c.if-not-readable.false)
