@@ -1,0 +1,19 @@
+use Prim.Native.Nat.{ℕ, ◌-◌, ◌≤◌}
+use mathlib.Core.Path.{◌≡◌}
+use mathlib.Core.List.{List}
+use lib.ListN.{length}
+use Rattle.record.specs.declared.Record.{Record}
+use Rattle.record.specs.Tables.{lent}
+use Rattle.lookup.specs.Lookup.{lookup_of}
+use Rattle.many.specs.Inner.Images.{Opened}
+use Rattle.many.specs.Inner.Keys.{Done}
+use Rattle.many.proofs.Keys.{Stage}
+use Rattle.many.proofs.find.along.Given as goal
+
+abbrev pub invariant-loop-i : goal.invariant-loop-i
+invariant-loop-i l = (l.from ≤ l.i) × (l.i ≤ length l.keys) × (length l.indices ≡ length l.initial.indices)
+    × ((u : Record) → Opened u (lent l.h l.g l.aux) l.frame l.tables → (old : List ℕ) → Done (lookup_of u (lent l.h l.g l.aux)) l.keys old l.initial.indices l.from
+    → Stage (lookup_of u (lent l.h l.g l.aux)) l.keys old l.from l.indices l.i)
+
+abbrev pub decreases-loop-i : goal.decreases-loop-i
+decreases-loop-i l = length l.keys - l.i
