@@ -2,7 +2,7 @@
 use Prim.Native.Nat.{ℕ, zero, suc, ◌+◌, ◌≤◌, ◌<◌}
 use native.Mathlib.Nat.{zero-add}
 use native.Mathlib.Omega.{arith}
-use mathlib.Core.Path.{◌≡◌, refl, sym, ap, ◌∙◌}
+use mathlib.Core.Path.{◌≡◌, refl, sym, ap, ◌∙◌, subst}
 use mathlib.Core.Bool.{Bool, true, false, cond}
 use mathlib.Core.List.{List, [], ◌∷◌}
 use mathlib.Core.Logic.{inr}
@@ -36,7 +36,9 @@ module _ (h : List ℕ) where
           → cond (has n (r ∷ order)) (suc (get_or h n 0)) 0 + sum_in h (r ∷ order) n ≡ suc (get_or h r 0) + (cond (has n order) (suc (get_or h n 0)) 0 + sum_in h order n)
       go true q u =
           let z : r ≡ n = eqb-true r n q in
-          rw (← z, has_self r order, e) (omega (arith, sum_past order r r (omega arith)))
+          let here : has n (r ∷ order) ≡ true = subst (λ (m : ℕ). has m (r ∷ order) ≡ true) z (has_self r order) in
+          let before : has n order ≡ false = subst (λ (m : ℕ). has m order ≡ false) z e in
+          rw (here, before, sum_past order r n (omega arith)) (omega (arith, ap (λ (m : ℕ). get_or h m 0) z))
       go false q u =
           let z : r ≡ n → ⊥ = eqb-false r n q in
           rw (has_other n r order (λ y. z (sym y))) (omega (arith, u (omega (arith, z))))
