@@ -15,7 +15,7 @@ import re
 import sys
 
 WORD = re.compile(r"--[^\n]*|\"(?:[^\"\\]|\\.)*\"|«[^»]*»|[^\s(){}.;,@\"«»\[\]\\]+|\.|[(){};,@\[\]\\]")
-DECLARED = re.compile(r"(?m)^(?:(?:pub|abbrev|unfoldable|opaque) +)*([^\s:(){}]+) +:(?: |$)")
+DECLARED = re.compile(r"(?m)^ *(?:(?:pub|abbrev|unfoldable|opaque) +)*([^\s:(){}]+) +:(?: |$)")
 USE = re.compile(r"(?m)^(?:ghost )?use ([^\s{;]+?)(?:\.\{([^}]*)\})?(?: as ([^\s;]+))?;?$")
 FIELD = re.compile(r"^ +(?:(?:pub|abbrev|unfoldable) )*([^\s:(){}|]+) : ")
 # Names that would fall together with another name in scope, or say something else.
@@ -68,9 +68,7 @@ class Tree:
             self.look(path, read(path))
 
     def look(self, path, text):
-        for it in DECLARED.finditer(text):
-            if not text[it.start() :].startswith(" "):
-                self.declared.add(it.group(1))
+        self.declared |= {it.group(1) for it in DECLARED.finditer(text)}
         # In the proof of a function a field may be a step's: there only the fields of records count.
         inside = not text.count(".Tie")
         for line in text.split("\n"):

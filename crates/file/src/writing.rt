@@ -1,5 +1,5 @@
 // A unit written as a file.
-ghost use Rattle.std.specs.Prelude.{◌≡◌, ◌∷◌, [], ◌+◌, ◌*◌, ◌≤◌, length, take};
+ghost use Rattle.std.specs.Prelude.{◌≡◌, ◌∷◌, [], ◌++◌, ◌+◌, ◌*◌, ◌≤◌, drop, length, take};
 ghost use Rattle.std.proofs.lemmas.List.Edits.{sets};
 ghost use Rattle.vectors.specs.Variable.{kinds_of};
 ghost use Rattle.record.specs.Tables.{lent};
@@ -129,6 +129,14 @@ fn put64(kind: u8, first: usize, words: &[u64], target: &mut [u8])
     }
 }
 
+// Writes the bytes over the first of the target.
+fn copy(from: &[u8], target: &mut [u8])
+    requires { length from.now ≤ length target.old }
+    ensures { target.new ≡ from.now ++ drop (length from.now) target.old }
+{
+    target[..from.len()].copy_from_slice(from);
+}
+
 // The head and the tables, which are lent as long as the unit has them.
 fn fill(unit: Record, starts: Starts, h: &[u16], g: &[u16], aux: &[u64], target: &mut [u8])
     requires sizes { (length h.now ≡ rows_in unit) × (length g.now ≡ unit.cells) × (length aux.now ≡ words_in unit) }
@@ -137,7 +145,7 @@ fn fill(unit: Record, starts: Starts, h: &[u16], g: &[u16], aux: &[u64], target:
     ensures { target.new ≡ sets target.old 0 (file_with unit h.now g.now aux.now) }
 {
     let b = head(unit);
-    bytes::copy(&b, target);
+    copy(&b, target);
     put16(layout::H, layout::H_FIRST, h, target);
     put16(layout::G, starts.g, g, target);
     put64(layout::AUX, starts.aux, aux, target);

@@ -76,39 +76,39 @@ module _ (u v : Record) (s t : Tables) (e : SameUnit u s v t) (hu : sound u s �
     word_same = cc (f.n, f.n1, f.variables, f.kept)
 
     compared_same : (i : ℕ) → compared u s.aux x i ≡ compared v t.aux x i
-    compared_same i = ⊎_elim within (λ h. sym (looking.compared-above u s.aux x i h) ∙ looking.compared-above v t.aux x i (omega (arith, f.k))) (le_or_lt i u.k)
+    compared_same i = ⊎_elim within (λ h. sym (looking.compared_above u s.aux x i h) ∙ looking.compared_above v t.aux x i (omega (arith, f.k))) (le_or_lt i u.k)
       where
         held : 0 < i → i ≤ u.k → (b : Bool) → eqb (get_or s.aux i 0) (word_in u x) ≡ b → compared u s.aux x i ≡ compared v t.aux x i
         held p h true q =
             sym (looking.compared_same u s.aux x i (λ z. omega arith) h (eqb-true _ _ q))
             ∙ looking.compared_same v t.aux x i (λ z. omega arith) (omega (arith, f.k)) (sym (word i h) ∙ eqb-true _ _ q ∙ word_same)
         held p h false q =
-            sym (looking.compared-other u s.aux x i (λ z. omega arith) h (eqb-false _ _ q))
-            ∙ looking.compared-other v t.aux x i (λ z. omega arith) (omega (arith, f.k)) (λ z. eqb-false _ _ q (word i h ∙ z ∙ sym word_same))
+            sym (looking.compared_other u s.aux x i (λ z. omega arith) h (eqb-false _ _ q))
+            ∙ looking.compared_other v t.aux x i (λ z. omega arith) (omega (arith, f.k)) (λ z. eqb-false _ _ q (word i h ∙ z ∙ sym word_same))
 
         within : i ≤ u.k → compared u s.aux x i ≡ compared v t.aux x i
         within h =
-            ⊎_elim (λ z. sym (looking.compared-none u s.aux x i z) ∙ looking.compared-none v t.aux x i z)
+            ⊎_elim (λ z. sym (looking.compared_none u s.aux x i z) ∙ looking.compared_none v t.aux x i z)
             (λ p. held p h (eqb (get_or s.aux i 0) (word_in u x)) refl) (eq-zero-or-pos i)
 
     answer_same : answer u s x ≡ answer v t x
     answer_same = ⊎_elim out into (le_or_lt u.cells (cell_in u s x))
       where
         out : u.cells ≤ cell_in u s x → answer u s x ≡ answer v t x
-        out h = sym (looking.answer-out u s x (cell_in u s x) refl h) ∙ looking.answer-out v t x (cell_in u s x) cell_same (omega (arith, f.cells))
+        out h = sym (looking.answer_out u s x (cell_in u s x) refl h) ∙ looking.answer_out v t x (cell_in u s x) cell_same (omega (arith, f.cells))
 
         into : cell_in u s x < u.cells → answer u s x ≡ answer v t x
         into h =
-            sym (looking.answer-in u s x (cell_in u s x) refl h)
+            sym (looking.answer_in u s x (cell_in u s x) refl h)
             ∙ compared_same (get_or s.g (cell_in u s x) 0)
             ∙ ap (compared v t.aux x) (in_range s.g t.g e.g f.cells h)
-            ∙ looking.answer-in v t x (cell_in u s x) cell_same (omega (arith, f.cells))
+            ∙ looking.answer_in v t x (cell_in u s x) cell_same (omega (arith, f.cells))
 
     lookup_same : lookup_of u s x ≡ lookup_of v t x
     lookup_same =
         let w : 2 ^ u.n ≡ 2 ^ v.n = ap (λ (i : ℕ). 2 ^ i) f.n in
-        ⊎_elim (λ h. sym (looking.lookup-beyond u s x S.well_formed_lem h) ∙ looking.lookup-beyond v t x T.well_formed_lem (omega arith))
-        (λ h. sym (looking.lookup-answer u s x S.well_formed_lem h) ∙ answer_same ∙ looking.lookup-answer v t x T.well_formed_lem (omega arith)) (le_or_lt (2 ^ u.n) x)
+        ⊎_elim (λ h. sym (looking.lookup_beyond u s x S.well_formed_lem h) ∙ looking.lookup_beyond v t x T.well_formed_lem (omega arith))
+        (λ h. sym (looking.lookup_answer u s x S.well_formed_lem h) ∙ answer_same ∙ looking.lookup_answer v t x T.well_formed_lem (omega arith)) (le_or_lt (2 ^ u.n) x)
 
   -- ---- recovery
 
