@@ -4,10 +4,12 @@
 mod builds;
 mod say;
 
-fn main() {
-    builds::samples();
-    builds::list_refusals();
-    builds::variable_refusals();
-    builds::table_refusals();
-    builds::allowances();
+use std::io;
+
+fn main(rt: HostRuntime) -> io::Result<()> {
+    builds::samples(&rt)?;
+    builds::list_refusals(&rt)?;
+    builds::variable_refusals(&rt)?;
+    builds::table_refusals(&rt)?;
+    builds::allowances(&rt)
 }

@@ -1,11 +1,10 @@
 // What the builds print.
-use libc::STDOUT_FILENO;
+use std::io;
 use unit::Built;
 use vectors::MAX_VARIABLES;
 
-fn number(x: u64) {
-    io::write_all(STDOUT_FILENO, b" ");
-    io::print_decimal(STDOUT_FILENO, x);
+fn number(rt: &impl Print, x: u64) -> io::Result<()> {
+    print!(rt; " {x}")
 }
 
 // A signed number without its sign.
@@ -16,14 +15,12 @@ fn magnitude(x: i64) -> u64 {
     x as u64
 }
 
-fn signed(x: i64) {
+fn signed(rt: &impl Print, x: i64) -> io::Result<()> {
     let size = magnitude(x);
     if x < 0 {
-        io::write_all(STDOUT_FILENO, b" -");
-        io::print_decimal(STDOUT_FILENO, size);
-        return;
+        return print!(rt; " -{size}");
     }
-    number(size);
+    number(rt, size)
 }
 
 fn mix(digest: u64, word: u64) -> u64 {
@@ -56,22 +53,28 @@ fn digest64(words: &[u64]) -> u64 {
 
 // The refusal, its place and the cells needed, p, n1, excess, tries and the kept inputs of the record, a digest of the masks in its 24 slots, and a digest
 // of each table.
-pub(crate) fn built(b: Built, h: &[u16], g: &[u16], aux: &[u64]) {
+pub(crate) fn built(
+    rt: &impl Print,
+    b: Built,
+    h: &[u16],
+    g: &[u16],
+    aux: &[u64],
+) -> io::Result<()> {
     let u = b.unit;
     let variables = u.variables;
     let masks = vectors::masks(variables, MAX_VARIABLES);
-    io::write_all(STDOUT_FILENO, b"build");
-    number(b.refusal as u64);
-    number(b.place as u64);
-    number(b.needed as u64);
-    number(u.p as u64);
-    number(u.n1 as u64);
-    signed(u.excess);
-    number(u.tries);
-    number(u.kept);
-    number(digest64(&masks));
-    number(digest16(h));
-    number(digest16(g));
-    number(digest64(aux));
-    io::write_all(STDOUT_FILENO, b"\n");
+    print!(rt; "build")?;
+    number(rt, b.refusal as u64)?;
+    number(rt, b.place as u64)?;
+    number(rt, b.needed as u64)?;
+    number(rt, u.p as u64)?;
+    number(rt, u.n1 as u64)?;
+    signed(rt, u.excess)?;
+    number(rt, u.tries)?;
+    number(rt, u.kept)?;
+    number(rt, digest64(&masks))?;
+    number(rt, digest16(h))?;
+    number(rt, digest16(g))?;
+    number(rt, digest64(aux))?;
+    println!(rt;)
 }
