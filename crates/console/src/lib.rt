@@ -1,11 +1,13 @@
 // The program: its words and standard input read whole, and what they ask for written to standard output.
 #![tactic(auto)]
 
-ghost use Rattle.std.specs.Prelude.{◌≤◌, ◌≡◌, length, take};
+ghost use Rattle.std.specs.Prelude.{◌≤◌, ◌×◌, ◌≡◌, length, take};
 ghost use Rattle.io.specs.Counts.{IsPrefixLen};
 ghost use Rattle.words.specs.Words.{page_size, words_of};
 
-use libc::{STDIN_FILENO, STDOUT_FILENO};
+use std::env::FillError;
+use std::io::{self, Input, Read};
+use std::rt::Env;
 
 // One byte more than a text or a file may have, so that a longer one shows.
 fn room() -> [u8; 65537]
@@ -34,17 +36,17 @@ fn fill(given: &[u8], text: &[u8], out: &mut [u8]) -> usize
     words::words(given, text, out)
 }
 
-fn write(given: &[u8], text: &[u8], out: &mut [u8])
+fn write(rt: &impl Print, given: &[u8], text: &[u8], out: &mut [u8]) -> io::Result<()>
     requires { page_size ≤ length out.old }
 {
     let k = fill(given, text, out);
-    io::write_all(STDOUT_FILENO, &out[..k]);
+    rt.write_all(&out[..k])
 }
 
-// Writes what the words, a line each, and a text ask for.
-pub fn answer(given: &[u8], text: &[u8]) {
+// Writes what the words, a line each, and a text ask for. The error is that of a write that failed.
+pub fn answer(rt: &impl Print, given: &[u8], text: &[u8]) -> io::Result<()> {
     let mut out = page();
-    write(given, text, &mut out);
+    write(rt, given, text, &mut out)
 }
 
 // ---- what is read
@@ -57,31 +59,29 @@ struct Reading {
 }
 
 // One read behind the first `from` bytes; where it fails the count stays.
-fn read_more(fd: i32, buf: &mut [u8], from: usize) -> Reading
+fn read_more(input: &mut impl Read, buf: &mut [u8], from: usize) -> Reading
     requires { from ≤ length buf.old }
     ensures { (from ≤ result.count) × (result.count ≤ length buf.new) × (length buf.new ≡ length buf.old) }
 {
-    let got = libc::read(fd, &mut buf[from..]);
-    if got < 0 {
-        return Reading {
+    match input.read(&mut buf[from..]) {
+        Ok(more) => Reading {
+            count: from + more,
+            good: true,
+        },
+        Err(_) => Reading {
             count: from,
             good: false,
-        };
-    }
-    let more = io::count(got, &buf[from..]);
-    Reading {
-        count: from + more,
-        good: true,
+        },
     }
 }
 
 // Reads until `buf` is full, the input ends, which a read of no bytes shows, or a read fails.
-fn read_all(fd: i32, buf: &mut [u8]) -> Reading
+fn read_all(input: &mut impl Read, buf: &mut [u8]) -> Reading
     ensures { IsPrefixLen result.count buf.new }
 {
     let mut done = 0;
     while done < buf.len() {
-        let next = read_more(fd, buf, done);
+        let next = read_more(input, buf, done);
         if next.count == done {
             return next;
         }
@@ -93,19 +93,28 @@ fn read_all(fd: i32, buf: &mut [u8]) -> Reading
     }
 }
 
-// Word i of the call as a line behind the first `from` bytes; where it is too long the count stays.
-fn read_word(i: usize, buf: &mut [u8], from: usize) -> Reading
+// Word i of the call as a line behind the first `from` bytes. Where there is none the count stays; where it is too long the count stays
+// and the reading is not good.
+fn read_word(rt: &impl Env, i: usize, buf: &mut [u8], from: usize) -> Reading
     requires { from ≤ length buf.old }
     ensures { (from ≤ result.count) × (result.count ≤ length buf.new) × (length buf.new ≡ length buf.old) }
 {
-    let more = os::arg(i, &mut buf[from..]);
+    let more = match rt.arg(i, &mut buf[from..]) {
+        Ok(more) => more,
+        Err(FillError::NotPresent) => {
+            return Reading {
+                count: from,
+                good: true,
+            };
+        }
+        Err(FillError::TooLong) => {
+            return Reading {
+                count: from,
+                good: false,
+            };
+        }
+    };
     let end = from + more;
-    if os::errno() != 0 {
-        return Reading {
-            count: from,
-            good: false,
-        };
-    }
     if buf.len() <= end {
         return Reading {
             count: from,
@@ -119,20 +128,17 @@ fn read_word(i: usize, buf: &mut [u8], from: usize) -> Reading
     }
 }
 
-// The words of the call after the program's name, a line each.
-fn read_words(buf: &mut [u8]) -> Reading
+// The words of the call after the program's name, a line each. Where a word adds nothing there is no other, or it is too long.
+fn read_words(rt: &impl Env, buf: &mut [u8]) -> Reading
     ensures { IsPrefixLen result.count buf.new }
 {
-    let count = os::arg_count();
     let mut done = 0;
-    let mut i = 1;
-    while i < count {
-        let next = read_word(i, buf, done);
-        if !next.good {
+    for i in 1..usize::MAX {
+        let next = read_word(rt, i, buf, done);
+        if next.count <= done {
             return next;
         }
         done = next.count;
-        i += 1;
     }
     Reading {
         count: done,
@@ -141,14 +147,13 @@ fn read_words(buf: &mut [u8]) -> Reading
 }
 
 // Writes what the call's words and standard input ask for. What was not read whole is no list, as the empty text is none.
-pub fn run() {
+pub fn run(rt: &(impl Env + Input + Print)) -> io::Result<()> {
     let mut given = room();
     let mut input = room();
-    let words = read_words(&mut given);
-    let text = read_all(STDIN_FILENO, &mut input);
+    let words = read_words(rt, &mut given);
+    let text = read_all(&mut rt.reader(), &mut input);
     if words.good && text.good {
-        answer(&given[..words.count], &input[..text.count]);
-        return;
+        return answer(rt, &given[..words.count], &input[..text.count]);
     }
-    answer(b"", b"");
+    answer(rt, b"", b"")
 }

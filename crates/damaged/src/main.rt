@@ -2,65 +2,67 @@
 // and such a unit printed.
 #![tactic(auto)]
 
-use libc::STDOUT_FILENO;
+use std::io;
 use unit::{Found, Mark, Record, Recovered};
 use vectors::{Kind, Part, Variable};
 
-fn number(x: u64) {
-    io::write_all(STDOUT_FILENO, b" ");
-    io::print_decimal(STDOUT_FILENO, x);
+fn number(rt: &impl Print, x: u64) -> io::Result<()> {
+    print!(rt; " {x}")
 }
 
 // The refusal, its place and the index.
-fn say_found(f: Found) {
-    io::write_all(STDOUT_FILENO, b"lookup");
-    number(f.refusal as u64);
-    number(f.place as u64);
-    number(f.index as u64);
-    io::write_all(STDOUT_FILENO, b"\n");
+fn say_found(rt: &impl Print, f: Found) -> io::Result<()> {
+    print!(rt; "lookup")?;
+    number(rt, f.refusal as u64)?;
+    number(rt, f.place as u64)?;
+    number(rt, f.index as u64)?;
+    println!(rt;)
 }
 
 // The refusal, its place and the vector.
-fn say_recovered(r: Recovered) {
-    io::write_all(STDOUT_FILENO, b"recover");
-    number(r.refusal as u64);
-    number(r.place as u64);
-    number(r.vector);
-    io::write_all(STDOUT_FILENO, b"\n");
+fn say_recovered(rt: &impl Print, r: Recovered) -> io::Result<()> {
+    print!(rt; "recover")?;
+    number(rt, r.refusal as u64)?;
+    number(rt, r.place as u64)?;
+    number(rt, r.vector)?;
+    println!(rt;)
 }
 
-fn all_keys(u: Record, h: &[u16], g: &[u16], aux: &[u64]) {
+fn all_keys(rt: &impl Print, u: Record, h: &[u16], g: &[u16], aux: &[u64]) -> io::Result<()> {
     let mut x: u64 = 0;
     while x < 64 {
-        say_found(unit::lookup(u, h, g, aux, x));
+        say_found(rt, unit::lookup(u, h, g, aux, x))?;
         x += 1;
     }
+    Ok(())
 }
 
-fn all_numbers(u: Record, h: &[u16], g: &[u16], aux: &[u64]) {
+fn all_numbers(rt: &impl Print, u: Record, h: &[u16], g: &[u16], aux: &[u64]) -> io::Result<()> {
     let mut i = 0;
     while i < 9 {
-        say_recovered(unit::recover(u, h, g, aux, i));
+        say_recovered(rt, unit::recover(u, h, g, aux, i))?;
         i += 1;
     }
+    Ok(())
 }
 
 // Lookup of vector 3 and recovery of 3.
-fn both(u: Record, h: &[u16], g: &[u16], aux: &[u64]) {
-    say_found(unit::lookup(u, h, g, aux, 20));
-    say_recovered(unit::recover(u, h, g, aux, 3));
+fn both(rt: &impl Print, u: Record, h: &[u16], g: &[u16], aux: &[u64]) -> io::Result<()> {
+    say_found(rt, unit::lookup(u, h, g, aux, 20))?;
+    say_recovered(rt, unit::recover(u, h, g, aux, 3))
 }
 
 // Records whose numbers are out of bounds.
-fn wrong_numbers(u: Record, h: &[u16], g: &[u16], aux: &[u64]) {
-    both(Record { n: 0, ..u }, h, g, aux);
-    both(Record { n: 65, ..u }, h, g, aux);
-    both(Record { k: 0, ..u }, h, g, aux);
-    both(Record { k: 1024, ..u }, h, g, aux);
-    both(Record { cells: 0, ..u }, h, g, aux);
-    both(Record { cells: 8193, ..u }, h, g, aux);
-    both(Record { p: 7, ..u }, h, g, aux);
+fn wrong_numbers(rt: &impl Print, u: Record, h: &[u16], g: &[u16], aux: &[u64]) -> io::Result<()> {
+    both(rt, Record { n: 0, ..u }, h, g, aux)?;
+    both(rt, Record { n: 65, ..u }, h, g, aux)?;
+    both(rt, Record { k: 0, ..u }, h, g, aux)?;
+    both(rt, Record { k: 1024, ..u }, h, g, aux)?;
+    both(rt, Record { cells: 0, ..u }, h, g, aux)?;
+    both(rt, Record { cells: 8193, ..u }, h, g, aux)?;
+    both(rt, Record { p: 7, ..u }, h, g, aux)?;
     both(
+        rt,
         Record {
             n: 64,
             p: 25,
@@ -70,9 +72,10 @@ fn wrong_numbers(u: Record, h: &[u16], g: &[u16], aux: &[u64]) {
         h,
         g,
         aux,
-    );
-    both(Record { n1: 4, ..u }, h, g, aux);
+    )?;
+    both(rt, Record { n1: 4, ..u }, h, g, aux)?;
     both(
+        rt,
         Record {
             n: 64,
             p: 13,
@@ -82,8 +85,9 @@ fn wrong_numbers(u: Record, h: &[u16], g: &[u16], aux: &[u64]) {
         h,
         g,
         aux,
-    );
+    )?;
     both(
+        rt,
         Record {
             n: 64,
             p: 13,
@@ -93,100 +97,100 @@ fn wrong_numbers(u: Record, h: &[u16], g: &[u16], aux: &[u64]) {
         h,
         g,
         aux,
-    );
+    )
 }
 
 // Records whose variables or kept inputs are not right: a faulty variable, one kept input too few, one beyond n.
-fn wrong_inputs(u: Record, h: &[u16], g: &[u16], aux: &[u64]) {
+fn wrong_inputs(rt: &impl Print, u: Record, h: &[u16], g: &[u16], aux: &[u64]) -> io::Result<()> {
     let mut v = u.variables;
     v[1] = Variable {
         kind: Kind::Two(3, 2),
         part: Part::Row,
     };
-    both(Record { variables: v, ..u }, h, g, aux);
-    both(Record { kept: 9, ..u }, h, g, aux);
-    both(Record { kept: 73, ..u }, h, g, aux);
+    both(rt, Record { variables: v, ..u }, h, g, aux)?;
+    both(rt, Record { kept: 9, ..u }, h, g, aux)?;
+    both(rt, Record { kept: 73, ..u }, h, g, aux)
 }
 
 // Records that are well formed and not sound: another input kept, and a variable that is an XOR of earlier ones.
-fn unsound(u: Record, h: &[u16], g: &[u16], aux: &[u64]) {
-    both(Record { kept: 13, ..u }, h, g, aux);
+fn unsound(rt: &impl Print, u: Record, h: &[u16], g: &[u16], aux: &[u64]) -> io::Result<()> {
+    both(rt, Record { kept: 13, ..u }, h, g, aux)?;
     let mut v = u.variables;
     v[2] = Variable {
         kind: Kind::Two(2, 3),
         part: Part::Column,
     };
-    both(Record { variables: v, ..u }, h, g, aux);
+    both(rt, Record { variables: v, ..u }, h, g, aux)
 }
 
 // Part marks turned round, and the unit marked amended: neither lookup nor recovery reads them.
-fn other_marks(u: Record, h: &[u16], g: &[u16], aux: &[u64]) {
+fn other_marks(rt: &impl Print, u: Record, h: &[u16], g: &[u16], aux: &[u64]) -> io::Result<()> {
     let mut v = u.variables;
     v[0] = Variable {
         kind: Kind::One(2),
         part: Part::Column,
     };
-    both(Record { variables: v, ..u }, h, g, aux);
+    both(rt, Record { variables: v, ..u }, h, g, aux)?;
     let mark = Mark::Amended;
-    both(Record { mark, ..u }, h, g, aux);
+    both(rt, Record { mark, ..u }, h, g, aux)
 }
 
 // Tables shorter than the record says.
-fn short_tables(u: Record, h: &[u16], g: &[u16], aux: &[u64]) {
+fn short_tables(rt: &impl Print, u: Record, h: &[u16], g: &[u16], aux: &[u64]) -> io::Result<()> {
     let rows: [u16; 3] = [0, 2, 4];
     let cells: [u16; 6] = [5, 1, 7, 2, 4, 3];
     let words: [u64; 7] = [0, 0, 1, 2, 10, 16, 23];
-    both(u, &rows, g, aux);
-    both(u, h, &cells, aux);
-    both(u, h, g, &words);
+    both(rt, u, &rows, g, aux)?;
+    both(rt, u, h, &cells, aux)?;
+    both(rt, u, h, g, &words)
 }
 
 // Tables that no build leaves: vector 3 has row 2, H 4 and cell 5.
-fn tables(u: Record, h: &[u16], g: &[u16], aux: &[u64]) {
+fn tables(rt: &impl Print, u: Record, h: &[u16], g: &[u16], aux: &[u64]) -> io::Result<()> {
     // an index above k in the cell, an empty cell, and the index in an earlier cell too
     let above: [u16; 7] = [5, 1, 7, 2, 4, 8, 6];
-    both(u, h, &above, aux);
+    both(rt, u, h, &above, aux)?;
     let empty: [u16; 7] = [5, 1, 7, 2, 4, 0, 6];
-    both(u, h, &empty, aux);
+    both(rt, u, h, &empty, aux)?;
     let twice: [u16; 7] = [5, 1, 7, 2, 3, 3, 6];
-    both(u, h, &twice, aux);
+    both(rt, u, h, &twice, aux)?;
     // the cell below H[row], so that a lookup goes beyond L; then the column beyond its range
     let far: [u16; 4] = [0, 2, 6, 5];
-    both(u, &far, g, aux);
+    both(rt, u, &far, g, aux)?;
     let near: [u16; 4] = [0, 2, 0, 5];
-    both(u, &near, g, aux);
+    both(rt, u, &near, g, aux)?;
     // a word with a bit beyond its range, and another vector's
     let beyond: [u64; 8] = [0, 0, 1, 34, 10, 16, 23, 25];
-    both(u, h, g, &beyond);
+    both(rt, u, h, g, &beyond)?;
     let other: [u64; 8] = [0, 0, 1, 6, 10, 16, 23, 25];
-    both(u, h, g, &other);
+    both(rt, u, h, g, &other)
 }
 
 // A record with an excess below 0, printed with its minus on a page as long as the text.
-fn printed(u: Record, h: &[u16], g: &[u16], aux: &[u64]) {
+fn printed(rt: &impl Print, u: Record, h: &[u16], g: &[u16], aux: &[u64]) -> io::Result<()> {
     let mut page = [0u8; 93];
     print::print(Record { excess: -1, ..u }, h, g, aux, &mut page);
-    io::write_all(STDOUT_FILENO, &page);
+    rt.write_all(&page)
 }
 
-fn cases(u: Record, h: &[u16], g: &[u16], aux: &[u64]) {
-    all_keys(u, h, g, aux);
-    all_numbers(u, h, g, aux);
-    say_found(unit::lookup(u, h, g, aux, 64));
-    wrong_numbers(u, h, g, aux);
-    wrong_inputs(u, h, g, aux);
-    unsound(u, h, g, aux);
-    other_marks(u, h, g, aux);
-    short_tables(u, h, g, aux);
-    tables(u, h, g, aux);
-    printed(u, h, g, aux);
+fn cases(rt: &impl Print, u: Record, h: &[u16], g: &[u16], aux: &[u64]) -> io::Result<()> {
+    all_keys(rt, u, h, g, aux)?;
+    all_numbers(rt, u, h, g, aux)?;
+    say_found(rt, unit::lookup(u, h, g, aux, 64))?;
+    wrong_numbers(rt, u, h, g, aux)?;
+    wrong_inputs(rt, u, h, g, aux)?;
+    unsound(rt, u, h, g, aux)?;
+    other_marks(rt, u, h, g, aux)?;
+    short_tables(rt, u, h, g, aux)?;
+    tables(rt, u, h, g, aux)?;
+    printed(rt, u, h, g, aux)
 }
 
-fn main() {
+fn main(rt: HostRuntime) -> io::Result<()> {
     let s: [u64; 7] = [16, 18, 20, 28, 32, 55, 58];
     let mut h = [9u16; 4];
     let mut g = [9u16; 7];
     let mut aux = [9u64; 8];
     let b = unit::build_chosen(6, 2, 7, 15, &s, &mut h, &mut g, &mut aux);
-    cases(b.unit, &h, &g, &aux);
+    cases(&rt, b.unit, &h, &g, &aux)
 }

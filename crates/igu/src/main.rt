@@ -1,6 +1,8 @@
 // Reads a list on standard input, builds its unit by rule and prints it.
 #![tactic(auto)]
 
-fn main() {
-    console::run();
+use std::io;
+
+fn main(rt: HostRuntime) -> io::Result<()> {
+    console::run(&rt)
 }

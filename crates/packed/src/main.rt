@@ -1,6 +1,8 @@
 // The program with the word `pack`: the file of the list S. Its output is compared.
 #![tactic(auto)]
 
-fn main() {
-    console::run();
+use std::io;
+
+fn main(rt: HostRuntime) -> io::Result<()> {
+    console::run(&rt)
 }
