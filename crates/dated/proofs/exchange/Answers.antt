@@ -1,0 +1,11 @@
+use borrow.Author.Tests.{eq-eqb, ne_eqb}
+use Rattle.dated.proofs.exchange.Goals as goal
+
+pub returns-then-b-eq44 : goal.returns-then-b-eq44
+returns-then-b-eq44 c = rw (eq-eqb _ _ c.if-b-eq44.true)
+
+pub returns-then-b-eq32 : goal.returns-then-b-eq32
+returns-then-b-eq32 c = rw (ne_eqb _ _ c.if-b-eq44.false, eq-eqb _ _ c.if-b-eq32.true)
+
+pub returns : goal.returns
+returns c = rw (ne_eqb _ _ c.if-b-eq44.false, ne_eqb _ _ c.if-b-eq32.false)
