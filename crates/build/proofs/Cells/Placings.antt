@@ -8,7 +8,7 @@ use mathlib.Core.Logic.{◌⊎◌, inl, inr, ⊎_elim}
 use lib.Dec.{eqb}
 use lib.ListN.{length, get_or, replicate, length-replicate}
 use borrow.Author.Tests.{eqb-true, eq-eqb}
-use Rattle.lists.specs.Members.{All, In}
+use Rattle.lists.specs.Members.{In}
 use Rattle.lists.proofs.Tests.{le_or_lt}
 use Rattle.vectors.specs.declared.Kind.{Kind}
 use Rattle.rows.specs.Care.{Care}

@@ -1,4 +1,3 @@
-use native.Mathlib.Omega.{arith}
 use mathlib.Core.Path.{refl, sym, ◌∙◌}
 use borrow.Author.Tests.{lt-ltb}
 use Rattle.choice.proofs.Choosing.Places.{past_inputs, past_vectors, within, by_rule}

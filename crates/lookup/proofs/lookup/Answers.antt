@@ -54,9 +54,9 @@ returns-then-beyond c =
 
 pub answer-requires : goal.answer-requires
 answer-requires c = record {
-      formed = facts (goal.at.answer-requires c).Else-values;
-      values = c.take_values-values.ensures.value c.if-values.false;
-    }
+  formed = facts (goal.at.answer-requires c).Else-values;
+  values = c.take_values-values.ensures.value c.if-values.false;
+}
 
 pub returns : goal.returns
 returns c =

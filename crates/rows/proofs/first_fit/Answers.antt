@@ -28,27 +28,27 @@ single c =
 
 pub returns-then-unfit : goal.returns-then-unfit
 returns-then-unfit c = record {
-      value = single_unfit _ _ (sym c.unfit.ensures ∙ c.if-unfit.true);
-      words_unchanged = refl;
-    }
+  value = single_unfit _ _ (sym c.unfit.ensures ∙ c.if-unfit.true);
+  words_unchanged = refl;
+}
 
 pub returns-then-words-eq1 : goal.returns-then-words-eq1
 returns-then-words-eq1 c = record {
-      value = single_none _ _ (fit (goal.at.returns-then-words-eq1 c).Else-unfit) c.if-words-eq1.true;
-      words_unchanged = refl;
-    }
+  value = single_none _ _ (fit (goal.at.returns-then-words-eq1 c).Else-unfit) c.if-words-eq1.true;
+  words_unchanged = refl;
+}
 
 pub link-requires : goal.link-requires
 link-requires c = let f = fits (goal.at.link-requires c).Else-unfit in record {
-      packed = f.packed;
-      inside = (f.some, f.few);
-    }
+  packed = f.packed;
+  inside = (f.some, f.few);
+}
 
 pub take_cells-requires : goal.take_cells-requires
 take_cells-requires c = record {
-      inside = (fits (goal.at.take_cells-requires c).Else-unfit).cells_few;
-      blank = refl;
-    }
+  inside = (fits (goal.at.take_cells-requires c).Else-unfit).cells_few;
+  blank = refl;
+}
 
 pub first_fit-fit-requires : goal.first_fit-fit-requires
 first_fit-fit-requires c =

@@ -18,21 +18,21 @@ fits e = fits_are _ _ _ _ (fit e)
 
 pub returns-then-unfit : goal.returns-then-unfit
 returns-then-unfit c = record {
-      g_after = sym (placed_unfit _ _ _ _ _ (sym c.unfit.ensures ∙ c.if-unfit.true));
-      aux_unchanged = refl;
-    }
+  g_after = sym (placed_unfit _ _ _ _ _ (sym c.unfit.ensures ∙ c.if-unfit.true));
+  aux_unchanged = refl;
+}
 
 pub link-requires : goal.link-requires
 link-requires c = let f = fits (goal.at.link-requires c).Else-unfit in record {
-      packed = f.packed;
-      inside = (f.some, f.few);
-    }
+  packed = f.packed;
+  inside = (f.some, f.few);
+}
 
 pub take_cells-requires : goal.take_cells-requires
 take_cells-requires c = record {
-      inside = (fits (goal.at.take_cells-requires c).Else-unfit).cells_few;
-      blank = refl;
-    }
+  inside = (fits (goal.at.take_cells-requires c).Else-unfit).cells_few;
+  blank = refl;
+}
 
 pub place_rows-placed-requires : goal.place_rows-placed-requires
 place_rows-placed-requires c =

@@ -87,7 +87,7 @@ shape_of-words c = c.loop-i.invariant.room
 
 pub returns : goal.returns
 returns c = let e = lifting_end c.loop-i.invariant c.loop-i-test.false in record {
-      count = e.0;
-      words = e.1;
-      cells = e.2;
-    }
+  count = e.0;
+  words = e.1;
+  cells = e.2;
+}

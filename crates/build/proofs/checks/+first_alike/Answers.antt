@@ -2,7 +2,7 @@ use Prim.Native.Nat.{ℕ, ◌<◌, ◌^◌}
 use native.Mathlib.Omega.{arith}
 use mathlib.Core.Path.{sym, ap, ◌∙◌}
 use mathlib.Core.List.{List, map}
-use lib.ListN.{length, take, length-map}
+use lib.ListN.{take, length-map}
 use Rattle.lists.proofs.Entries.Alls.{at_all}
 use Rattle.repeats.specs.Repeats.{repeated_in}
 use Rattle.repeats.proofs.Limit.{too_many, none}

@@ -34,10 +34,10 @@ enum_told-1 c = search rules
 
 pub accept-requires : goal.accept-requires
 accept-requires c = record {
-      sizes = (c.place_all-placed.auto.aux ∙ c.requires.sizes.0, c.requires.sizes.3);
-      list = c.requires.list;
-      split = c.requires.split;
-    }
+  sizes = (c.place_all-placed.auto.aux ∙ c.requires.sizes.0, c.requires.sizes.3);
+  list = c.requires.list;
+  split = c.requires.split;
+}
 
 pub returns-in-All : goal.returns-in-All
 returns-in-All c =

@@ -5,6 +5,6 @@ use Rattle.file.proofs.layout.blocks_for.Goals as goal
 
 pub returns : goal.returns
 returns c = record {
-      value = refl;
-      upper_bound = blocks_few _ _ (search rules);
-    }
+  value = refl;
+  upper_bound = blocks_few _ _ (search rules);
+}

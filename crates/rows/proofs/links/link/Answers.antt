@@ -77,11 +77,10 @@ pub bounds-h-r-in-loop-i : goal.bounds-h-r-in-loop-i
 bounds-h-r-in-loop-i c = row (goal.at.bounds-h-r-in-loop-i c).In-loop-i
 
 pub loop-i-preserved : goal.loop-i-preserved
-loop-i-preserved c =
-    (
-      omega arith,
-      linking_next _ _ (packed (goal.at.loop-i-preserved c).After-slice_known-3-1) _ _ _ c.loop-i-test.true c.loop-i.invariant.0 (omega (arith, c.requires.packed, c.requires.inside)) c.loop-i.invariant.1 _ _ c.head-j.ensures c.weight_from-n.ensures,
-    )
+loop-i-preserved c = (
+  omega arith,
+  linking_next _ _ (packed (goal.at.loop-i-preserved c).After-slice_known-3-1) _ _ _ c.loop-i-test.true c.loop-i.invariant.0 (omega (arith, c.requires.packed, c.requires.inside)) c.loop-i.invariant.1 _ _ c.head-j.ensures c.weight_from-n.ensures,
+)
 
 pub shape_of-aux : goal.shape_of-aux
 shape_of-aux c = c.loop-i.invariant.1.size

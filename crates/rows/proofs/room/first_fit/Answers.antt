@@ -17,9 +17,9 @@ use Rattle.rows.proofs.room.first_fit.Goals.{At-loop-d, In-loop-d, Start, Then-o
 
 pub top-c-requires : goal.top-c-requires
 top-c-requires c = record {
-      linked = c.requires.linked;
-      inside = c.requires.inside.0;
-    }
+  linked = c.requires.linked;
+  inside = c.requires.inside.0;
+}
 
 -- the start of the call that came to the loop
 abbrev start : At-loop-d → Start
@@ -41,9 +41,9 @@ loop-d-init c = ((λ e l. absurd (omega arith)), omega arith)
 
 pub shut-open-requires : goal.shut-open-requires
 shut-open-requires c = let s = start (goal.at.shut-open-requires c).At-loop-d in record {
-      linked = s.requires.linked;
-      inside = (s.requires.inside.0, within c, s.requires.taken.size);
-    }
+  linked = s.requires.linked;
+  inside = (s.requires.inside.0, within c, s.requires.taken.size);
+}
 
 -- some displacement of the block has room: the first is low, and the first that is free
 open_low : (c : Then-open-ne0) → count_trailing_zeros 64 (2 ^ 64 - 1 - c.shut-open.result) < 64

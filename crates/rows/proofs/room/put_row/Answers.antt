@@ -1,7 +1,6 @@
 use Prim.Native.Nat.{ℕ, ◌+◌, ◌≤◌, ◌<◌}
 use native.Mathlib.Omega.{arith}
 use mathlib.Core.Path.{◌≡◌, refl, sym, ◌∙◌}
-use mathlib.Core.Bool.{true}
 use lib.ListN.{length, length-set}
 use Rattle.vectors.specs.Bounds.{max_cells}
 use Rattle.rows.specs.Inner.Taken.{taken_words}
@@ -75,6 +74,6 @@ loop-j-preserved c =
 
 pub returns : goal.returns
 returns c = record {
-      g_after = sym (put_end _ _ c.loop-j-test.false _ _ _) ∙ c.loop-j.invariant.3;
-      taken_2 = c.loop-j.invariant.4;
-    }
+  g_after = sym (put_end _ _ c.loop-j-test.false _ _ _) ∙ c.loop-j.invariant.3;
+  taken_2 = c.loop-j.invariant.4;
+}

@@ -1,7 +1,6 @@
 use Prim.Native.Nat.{◌+◌, ◌<◌}
 use native.Mathlib.Omega.{arith}
 use mathlib.Core.Path.{refl}
-use mathlib.Core.Bool.{true}
 use Rattle.rows.specs.Inner.Taken.{taken_cells}
 use Rattle.rows.proofs.Chains.Walks.{next_rises, inside_on, shut_start, shut_more, shut_all, shut_end}
 use Rattle.rows.proofs.room.shut.Goals as goal

@@ -16,23 +16,21 @@ pub loop-j-smaller-then-most-c : goal.loop-j-smaller-then-most-c
 loop-j-smaller-then-most-c c = omega (arith, later (goal.at.loop-j-smaller-then-most-c c).After-next-j)
 
 pub loop-j-preserved-then-most-c : goal.loop-j-preserved-then-most-c
-loop-j-preserved-then-most-c c =
-    (
-      omega (arith, later (goal.at.loop-j-preserved-then-most-c c).After-next-j),
-      sym (top_more _ c.requires.linked _ c.loop-j.invariant.0 c.loop-j-test.true _ _ c.column-c.ensures c.next-j.ensures _ c.if-most-c.true)
-          ∙ c.loop-j.invariant.1,
-    )
+loop-j-preserved-then-most-c c = (
+  omega (arith, later (goal.at.loop-j-preserved-then-most-c c).After-next-j),
+  sym (top_more _ c.requires.linked _ c.loop-j.invariant.0 c.loop-j-test.true _ _ c.column-c.ensures c.next-j.ensures _ c.if-most-c.true)
+      ∙ c.loop-j.invariant.1,
+)
 
 pub loop-j-smaller : goal.loop-j-smaller
 loop-j-smaller c = omega (arith, later (goal.at.loop-j-smaller c).After-next-j)
 
 pub loop-j-preserved : goal.loop-j-preserved
-loop-j-preserved c =
-    (
-      omega (arith, later (goal.at.loop-j-preserved c).After-next-j),
-      sym (top_kept _ c.requires.linked _ c.loop-j.invariant.0 c.loop-j-test.true _ _ c.column-c.ensures c.next-j.ensures _ c.if-most-c.false)
-          ∙ c.loop-j.invariant.1,
-    )
+loop-j-preserved c = (
+  omega (arith, later (goal.at.loop-j-preserved c).After-next-j),
+  sym (top_kept _ c.requires.linked _ c.loop-j.invariant.0 c.loop-j-test.true _ _ c.column-c.ensures c.next-j.ensures _ c.if-most-c.false)
+      ∙ c.loop-j.invariant.1,
+)
 
 pub returns : goal.returns
 returns c = sym (top_end _ _ c.loop-j-test.false _) ∙ c.loop-j.invariant.1

@@ -25,25 +25,23 @@ pub loop-j-smaller-then-not-join : goal.loop-j-smaller-then-not-join
 loop-j-smaller-then-not-join c = omega arith
 
 pub loop-j-preserved-then-not-join : goal.loop-j-preserved-then-not-join
-loop-j-preserved-then-not-join c =
-    (
-      omega arith,
-      c.loop-j.invariant.1,
-      grounding_kept c.args.n _ _ _ c.loop-j.w c.loop-j.kept c.loop-j.j (omega arith) _ c.join.ensures.tags_after c.loop-j.invariant.2
-          (sym c.join.ensures.value ∙ c.if-not-join.true) _ (put_bit max_inputs _ _ c.loop-j.invariant.2.low.low (omega arith)),
-    )
+loop-j-preserved-then-not-join c = (
+  omega arith,
+  c.loop-j.invariant.1,
+  grounding_kept c.args.n _ _ _ c.loop-j.w c.loop-j.kept c.loop-j.j (omega arith) _ c.join.ensures.tags_after c.loop-j.invariant.2
+      (sym c.join.ensures.value ∙ c.if-not-join.true) _ (put_bit max_inputs _ _ c.loop-j.invariant.2.low.low (omega arith)),
+)
 
 pub loop-j-smaller : goal.loop-j-smaller
 loop-j-smaller c = omega arith
 
 pub loop-j-preserved : goal.loop-j-preserved
-loop-j-preserved c =
-    (
-      omega arith,
-      c.loop-j.invariant.1,
-      grounding_on c.args.n _ _ _ c.loop-j.w c.loop-j.kept c.loop-j.j (omega arith) _ c.join.ensures.tags_after c.loop-j.invariant.2
-          (sym c.join.ensures.value ∙ c.if-not-join.false),
-    )
+loop-j-preserved c = (
+  omega arith,
+  c.loop-j.invariant.1,
+  grounding_on c.args.n _ _ _ c.loop-j.w c.loop-j.kept c.loop-j.j (omega arith) _ c.join.ensures.tags_after c.loop-j.invariant.2
+      (sym c.join.ensures.value ∙ c.if-not-join.false),
+)
 
 pub returns : goal.returns
 returns c = grounding_all _ _ _ _ _ _ _ (omega arith) c.loop-j.invariant.2

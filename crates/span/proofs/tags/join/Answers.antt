@@ -13,9 +13,9 @@ bounds-tags-b c = omega arith
 
 pub returns-then-from-y : goal.returns-then-from-y
 returns-then-from-y c = let e = eq-eqb _ _ c.if-from-y.true in record {
-      value = sym e;
-      tags_after = rw e;
-    }
+  value = sym e;
+  tags_after = rw e;
+}
 
 pub loop-i-init : goal.loop-i-init
 unfolding part
