@@ -9,8 +9,7 @@ ghost use Rattle.adding.specs.Calls.{add_call};
 use flat::WORDS;
 
 // The vector x added to the unit. The answer is the refusal and 256 times the place; a refusal leaves every word as it was.
-#[unsafe(no_mangle)]
-pub extern "C" fn igu_add(
+pub fn igu_add(
     words: &mut [u64; WORDS],
     h: &mut [u16],
     g: &mut [u16],

@@ -31,8 +31,7 @@ fn built_answer(refusal: u8, place: usize, needed: usize) -> u64
 
 // The build that chooses its variables, with an allowance of tries. The answer is the refusal, 256 times the place and 2^32 times the
 // cells needed.
-#[unsafe(no_mangle)]
-pub extern "C" fn igu_build(
+pub fn igu_build(
     n: usize,
     degree: usize,
     cells: usize,
@@ -53,8 +52,7 @@ pub extern "C" fn igu_build(
 }
 
 // The build whose variables and n1 the caller states, likewise.
-#[unsafe(no_mangle)]
-pub extern "C" fn igu_build_given(
+pub fn igu_build_given(
     n: usize,
     p: usize,
     n1: usize,
@@ -104,8 +102,7 @@ fn find(words: &[u64; WORDS], h: &[u16], g: &[u16], aux: &[u64], x: u64) -> Foun
 }
 
 // The refusal and 256 times the number of the registered vector x, or 0.
-#[unsafe(no_mangle)]
-pub extern "C" fn igu_lookup(words: &[u64; WORDS], h: &[u16], g: &[u16], aux: &[u64], x: u64) -> u64
+pub fn igu_lookup(words: &[u64; WORDS], h: &[u16], g: &[u16], aux: &[u64], x: u64) -> u64
     ensures { result ≡ lookup_call words.now (lent h.now g.now aux.now) x }
 {
     let found = find(words, h, g, aux, x);
@@ -114,8 +111,7 @@ pub extern "C" fn igu_lookup(words: &[u64; WORDS], h: &[u16], g: &[u16], aux: &[
 
 // The index of each key goes to indices. The answer is the refusal of the first key that is refused, and 256 times its number, for which it has 56 bits:
 // more than any memory has keys.
-#[unsafe(no_mangle)]
-pub extern "C" fn igu_lookup_many(
+pub fn igu_lookup_many(
     words: &[u64; WORDS],
     h: &[u16],
     g: &[u16],
@@ -131,8 +127,7 @@ pub extern "C" fn igu_lookup_many(
 }
 
 // The refusal; the registered vector with the number i goes to vector.
-#[unsafe(no_mangle)]
-pub extern "C" fn igu_recover(
+pub fn igu_recover(
     words: &[u64; WORDS],
     h: &[u16],
     g: &[u16],
@@ -149,14 +144,7 @@ pub extern "C" fn igu_recover(
 }
 
 // The refusal and 256 times the bytes of the file that is written.
-#[unsafe(no_mangle)]
-pub extern "C" fn igu_write(
-    words: &[u64; WORDS],
-    h: &[u16],
-    g: &[u16],
-    aux: &[u64],
-    target: &mut [u8],
-) -> u64
+pub fn igu_write(words: &[u64; WORDS], h: &[u16], g: &[u16], aux: &[u64], target: &mut [u8]) -> u64
     ensures { filed result target.new ≡ write_call words.now (lent h.now g.now aux.now) target.old }
 {
     let written = file::write(flat::seen(words), h, g, aux, target);
@@ -164,8 +152,7 @@ pub extern "C" fn igu_write(
 }
 
 // The refusal; the record and the tables are the unit's that the file holds.
-#[unsafe(no_mangle)]
-pub extern "C" fn igu_read(
+pub fn igu_read(
     file: &[u8],
     h: &mut [u16],
     g: &mut [u16],

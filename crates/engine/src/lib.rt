@@ -25,8 +25,7 @@ fn answer(refusal: u8, number: usize, above: usize) -> u64
 }
 
 // The chosen build of a list of keys, with an allowance of tries. The answer is the refusal, 256 times the place and 2^32 times the cells needed.
-#[unsafe(no_mangle)]
-pub extern "C" fn igu_profiles_build(
+pub fn igu_profiles_build(
     degree: usize,
     cells: usize,
     allowance: u64,
@@ -47,8 +46,7 @@ pub extern "C" fn igu_profiles_build(
 
 // Where a key's profile is: the refusal, 256 times its number, and 2^32 for the brand's slab. As `profiles::find`, by the lookup for C: what it answers is
 // the house's answer as it stands, and the brand's but for the slab. Its 0 is a key that the brand's unit does not know.
-#[unsafe(no_mangle)]
-pub extern "C" fn igu_profile(
+pub fn igu_profile(
     brand: &[u64; WORDS],
     brand_h: &[u16],
     brand_g: &[u16],
