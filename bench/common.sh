@@ -51,8 +51,8 @@ launch() {
 
 build_archives() {
     for crate in bridge adding engine; do
-        step "proving and building an archive: rt staticlib $crate"
-        (cd "$top" && rt staticlib $crate </dev/null >"$out/staticlib.log" 2>&1) || stop "the archive could not be built; see $out/staticlib.log"
+        step "proving and building an archive: tools/archives $crate"
+        "$top/tools/archives" $crate </dev/null >"$out/staticlib.log" 2>&1 || stop "the archive could not be built; see $out/staticlib.log"
         [ -f "$top/target/staticlib/lib$crate.a" ] || stop "no archive of $crate; see $out/staticlib.log"
     done
 }

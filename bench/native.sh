@@ -46,7 +46,7 @@ build_archives() {
     for crate in bridge adding engine; do
         step "proving and compiling for $machine: $crate"
         rm -f "$top/target/staticlib/lib$crate.a"
-        (cd "$top" && RATTLE_HOME=$links rt staticlib $crate </dev/null >"$out/staticlib.log" 2>&1) || stop "the archive could not be built; see $out/staticlib.log"
+        RATTLE_HOME=$links "$top/tools/archives" $crate </dev/null >"$out/staticlib.log" 2>&1 || stop "the archive could not be built; see $out/staticlib.log"
         compile_here "$crate"
     done
 }

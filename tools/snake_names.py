@@ -1,11 +1,11 @@
 #!/usr/bin/env python3
 """Brings the names of this repository's definitions and lemmas to snake case, below crates/ (run once, at the top, after port.py).
 
-usage: tools/snake_names.py [--check]
+usage: tools/snake_names.py [--check] [OLD=NEW..]
 
 A name that specs/ or proofs/ declare (a definition, a lemma, a field, a local) loses its dashes and its humps: lookupOf and lookup-of become
 lookup_of. Names of the library, names of src/ and names that Rattle makes for a function's proof (behind `tie.`, or a step of one) stay.
---check writes nothing. Names that would fall together in one file are printed, and nothing is written then.
+OLD=NEW gives a name that this list of exceptions does not have. --check writes nothing. Names that would fall together in one file are printed, and nothing is written then.
 """
 
 import collections
@@ -130,6 +130,7 @@ def turned(tree, text, in_source, local):
 
 
 def main(words):
+    SPECIAL.update(it.split("=") for it in words if "=" in it)
     tree = Tree()
     results, bad = {}, False
     for path in tree.antt + tree.rt:
