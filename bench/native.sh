@@ -35,7 +35,7 @@ END
 compile_here() {
     [ -f "$kept" ] || stop "no module of $1 was kept"
     "$clang" --target=x86_64-unknown-linux-gnu -O0 -Xclang -disable-llvm-passes -S -emit-llvm -x ir "$kept" -o - |
-        sed -e 's/ "target-cpu"="x86-64"//' -e '/^target datalayout = /d' -e "s/^target triple = .*/target triple = \"$machine-unknown-linux-gnu\"/" >"$out/$1.ll"
+        sed -e 's/ "target-cpu"="x86-64[^"]*"//' -e '/^target datalayout = /d' -e "s/^target triple = .*/target triple = \"$machine-unknown-linux-gnu\"/" >"$out/$1.ll"
     "$clang" "--target=$machine-unknown-linux-gnu" -O3 -fPIC -ffunction-sections -fdata-sections -mllvm -trap-unreachable -mllvm -no-trap-after-noreturn \
         -c -x ir "$out/$1.ll" -o "$out/$1.o" || stop "$1 could not be compiled for $machine"
     rm "$kept"
