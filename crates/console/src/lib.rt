@@ -1,12 +1,13 @@
 // The program: its words and standard input read whole, and what they ask for written to standard output.
 #![tactic(auto)]
 
-ghost use Rattle.std.specs.Prelude.{◌≤◌, ◌×◌, ◌≡◌, length, take};
-ghost use Rattle.io.specs.Counts.{IsPrefixLen};
+ghost use Rattle.std.specs.Prelude.{◌≤◌, ◌<◌, ◌-◌, ◌≡◌, IfOk, OnOk, IfSome, List, [], true, false, length, take, drop};
+ghost use Rattle.std.specs.Io.KnownBytes.{Appends, Consumes, IsAtEnd};
+ghost use Rattle.console.specs.Prefix.{IsPrefixLen};
 ghost use Rattle.words.specs.Words.{page_size, words_of};
 
 use std::env::FillError;
-use std::io::{self, Input, Read};
+use std::io::{self, Input, Read, Write};
 use std::rt::Env;
 
 // One byte more than a text or a file may have, so that a longer one shows.
@@ -36,17 +37,20 @@ fn fill(given: &[u8], text: &[u8], out: &mut [u8]) -> usize
     words::words(given, text, out)
 }
 
-fn write(rt: &impl Print, given: &[u8], text: &[u8], out: &mut [u8]) -> io::Result<()>
+fn write<W: Write>(to: &mut W, given: &[u8], text: &[u8], out: &mut [u8]) -> io::Result<()>
     requires { page_size ≤ length out.old }
+    ensures { OnOk result (Appends (W.contents to.old) (W.contents to.new) (words_of given.now text.now)) }
 {
     let k = fill(given, text, out);
-    rt.write_all(&out[..k])
+    to.write_all(&out[..k])
 }
 
 // Writes what the words, a line each, and a text ask for. The error is that of a write that failed.
-pub fn answer(rt: &impl Print, given: &[u8], text: &[u8]) -> io::Result<()> {
+pub fn answer<W: Write>(to: &mut W, given: &[u8], text: &[u8]) -> io::Result<()>
+    ensures { OnOk result (Appends (W.contents to.old) (W.contents to.new) (words_of given.now text.now)) }
+{
     let mut out = page();
-    write(rt, given, text, &mut out)
+    write(to, given, text, &mut out)
 }
 
 // ---- what is read
@@ -59,9 +63,12 @@ struct Reading {
 }
 
 // One read behind the first `from` bytes; where it fails the count stays.
-fn read_more(input: &mut impl Read, buf: &mut [u8], from: usize) -> Reading
+fn read_more<R: Read>(input: &mut R, buf: &mut [u8], from: usize) -> Reading
     requires { from ≤ length buf.old }
-    ensures { (from ≤ result.count) × (result.count ≤ length buf.new) × (length buf.new ≡ length buf.old) }
+    ensures bounds { (from ≤ result.count) × (result.count ≤ length buf.new) × (length buf.new ≡ length buf.old) }
+    ensures front { take from buf.new ≡ take from buf.old }
+    ensures bytes { Consumes (R.remaining input.old) (R.remaining input.new) (take (result.count - from) (drop from buf.new)) }
+    ensures end { result.good ≡ true → result.count ≡ from → from < length buf.new → IsAtEnd (R.remaining input.new) }
 {
     match input.read(&mut buf[from..]) {
         Ok(more) => Reading {
@@ -76,8 +83,11 @@ fn read_more(input: &mut impl Read, buf: &mut [u8], from: usize) -> Reading
 }
 
 // Reads until `buf` is full, the input ends, which a read of no bytes shows, or a read fails.
-fn read_all(input: &mut impl Read, buf: &mut [u8]) -> Reading
-    ensures { IsPrefixLen result.count buf.new }
+fn read_all<R: Read>(input: &mut R, buf: &mut [u8]) -> Reading
+    ensures prefix_len { IsPrefixLen result.count buf.new }
+    ensures same_length { length buf.new ≡ length buf.old }
+    ensures bytes { Consumes (R.remaining input.old) (R.remaining input.new) (take result.count buf.new) }
+    ensures end { result.good ≡ true → result.count < length buf.new → IsAtEnd (R.remaining input.new) }
 {
     let mut done = 0;
     while done < buf.len() {
@@ -146,14 +156,38 @@ fn read_words(rt: &impl Env, buf: &mut [u8]) -> Reading
     }
 }
 
-// Writes what the call's words and standard input ask for. What was not read whole is no list, as the empty text is none.
+// Writes what the words, if they were read whole, and an input ask for, and answers whether all was read. What was not read whole is no list,
+// as the empty text is none.
+pub fn serve<R: Read, W: Write>(
+    given: &[u8],
+    whole: bool,
+    input: &mut R,
+    to: &mut W,
+) -> io::Result<bool>
+    ensures asked { IfOk result (λ all. all ≡ true → whole ≡ true) }
+    ensures all { IfOk result (λ all. all ≡ true →
+        IfSome (R.remaining input.old) (λ text. Appends (W.contents to.old) (W.contents to.new) (words_of given.now (take 65537 text)))) }
+    ensures not_all { IfOk result (λ all. all ≡ false → Appends (W.contents to.old) (W.contents to.new) (words_of [] [])) }
+{
+    let mut buf = room();
+    let text = read_all(input, &mut buf);
+    if whole && text.good {
+        answer(to, given, &buf[..text.count])?;
+        return Ok(true);
+    }
+    answer(to, b"", b"")?;
+    Ok(false)
+}
+
+// Writes what the call's words and standard input ask for.
 pub fn run(rt: &(impl Env + Input + Print)) -> io::Result<()> {
     let mut given = room();
-    let mut input = room();
     let words = read_words(rt, &mut given);
-    let text = read_all(&mut rt.reader(), &mut input);
-    if words.good && text.good {
-        return answer(rt, &given[..words.count], &input[..text.count]);
-    }
-    answer(rt, b"", b"")
+    serve(
+        &given[..words.count],
+        words.good,
+        &mut rt.reader(),
+        &mut io::writer(rt),
+    )?;
+    Ok(())
 }
