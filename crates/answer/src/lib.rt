@@ -12,13 +12,13 @@ use input::MAX_LISTED;
 use unit::Built;
 use vectors::{MAX_CELLS, MAX_ROWS};
 
-// Bytes that every answer fits into (`pageSize`).
+// Bytes that every answer fits into (`page_size`).
 pub const PAGE: usize = 131072;
 
 // The words of AUX that any list of a text needs (`roomy`).
 pub const AUX_WORDS: usize = MAX_LISTED + 1;
 
-// The tries that the program allows (`programAllowance`).
+// The tries that the program allows (`program_allowance`).
 pub const ALLOWANCE: u64 = 0xffff_ffff;
 
 // What a text leaves: whether it is a list, and if so what the build of its unit answers.

@@ -92,11 +92,13 @@ fn numbers(masks: &[u64], vectors: &[u64], out: &mut [u64])
 }
 
 // The number from 1 of the first vector that agrees with an earlier one on every variable; 0 for none, and for more than 1,023 vectors.
+// Not inlined: its arrays are given back before rows are placed.
+#[inline(never)]
 fn first_alike(chart: Chart, vectors: &[u64]) -> usize
     requires { chart.p ≤ max_variables }
     ensures { result ≡ repeated_in (map (number_of (kinds_by chart)) vectors.now) }
 {
-    // By a call of itself, since the compiler inlines no function that does so: its arrays are given back before rows are placed.
+    // A list that is too long is answered as an empty one.
     if MAX_VECTORS < vectors.len() {
         return first_alike(chart, &vectors[..0]);
     }

@@ -28,10 +28,12 @@ pub struct Chosen {
 }
 
 // The variables of the rule; none where n is not 1 to 64 or there are more than 1,023 vectors.
+// Not inlined: its arrays are given back before rows are placed.
+#[inline(never)]
 pub fn choose(vectors: &[u64], n: u8, degree: usize) -> Chosen
     ensures { result ≡ chosen_in vectors.now n degree }
 {
-    // By a call of itself, since the compiler inlines no function that does so: its arrays are given back before rows are placed.
+    // A list that is too long is answered as an empty one.
     if MAX_VECTORS < vectors.len() {
         return choose(&vectors[..0], 0, degree);
     }

@@ -33,10 +33,12 @@ fn seen(words: &[u64], next: &[u16; MAX_WORDS], from: usize, x: u64) -> bool
 }
 
 // The number from 1 of the first word that equals an earlier one; 0 for none, and for more than 1,023 words.
+// Not inlined: its arrays are given back before rows are placed.
+#[inline(never)]
 pub fn first_repeat(words: &[u64]) -> usize
     ensures { result ≡ repeated_in words.now }
 {
-    // By a call of itself, since the compiler inlines no function that does so: its arrays are given back before rows are placed.
+    // A list that is too long is answered as an empty one.
     if MAX_VECTORS < words.len() {
         return first_repeat(&words[..0]);
     }

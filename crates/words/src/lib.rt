@@ -12,7 +12,7 @@ use answer::AUX_WORDS;
 use unit::Record;
 use vectors::{MAX_CELLS, MAX_ROWS};
 
-// Bytes that everything written fits into (`pageSize`).
+// Bytes that everything written fits into (`page_size`).
 pub const PAGE: usize = answer::PAGE;
 
 // Whether the bytes are the word.
