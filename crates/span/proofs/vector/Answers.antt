@@ -1,5 +1,3 @@
--- ---- the tests passed
--- ---- the row and the column as one number
 use borrow.Author.Tests.{leb-true, leb-false}
 use native.Mathlib.Nat.{one-mul, mod-lt, lt_of_lt_of_le}
 use native.Mathlib.Omega.{arith}
@@ -31,6 +29,8 @@ many c =
     let a = c.args in
     kinds_many a.n a.p a.variables ∙ ap (min a.p) c.well_formed.1.0.1.0.1 ∙ sym c.least-q.ensures
 
+-- ---- the tests passed
+
 rows_in : (c : Else-q-n1) → c.args.n1 ≤ length (ks c.before.before.before)
 rows_in c = omega (arith, many c.before)
 
@@ -54,6 +54,8 @@ word_in : (c : Else-beyond-2)
     → c.args.word < 2 ^ (c.args.n1 + inputs_in c.args.n - length (ks c.before.before.before.before.before.before.before.before.before.before.before.before.before.before))
 word_in c =
     rw (many c.before.before.before.before.before.before.before.before.before.before.before.before, sym c.least-m.ensures) (leb-false _ _ (sym c.beyond-2.ensures ∙ c.if-beyond-2.false))
+
+-- ---- the row and the column as one number
 
 rows : (c : Else-q-n1) → 1 * 2 ^ c.args.n1 % 2 ^ max_inputs ≡ 2 ^ c.args.n1
 rows c =

@@ -4,7 +4,7 @@ use mathlib.Core.List.{List}
 use lib.ListN.{length, drop}
 use Rattle.lists.specs.First.{repeated}
 use Rattle.repeats.proofs.Limit.{few as few_words}
-use Rattle.vectors.specs.Bounds.{max_inputs, max_vectors}
+use Rattle.vectors.specs.Bounds.{max_vectors}
 use Rattle.build.specs.declared.Refusal.{Refusal}
 use Rattle.build.specs.Refusals.{ladder, refuse_if, list_checks}
 use Rattle.record.proofs.Formed.{inside}
@@ -45,10 +45,6 @@ equal c = c.first_repeat-equal.ensures ∙ few_words _ (few (View.up-Else-too_sh
 
 past7 : (c : Else-equal-ne0) → ladder (rungs c.before.before.before.before.before.before.before.before.before.before.before.before.before.before.before) ≡ ladder (drop 7 (rungs c.before.before.before.before.before.before.before.before.before.before.before.before.before.before.before))
 past7 c = past6 (View.up-Else-beyond-ne0 _ _ _ c.before.before.before) ∙ at_no 6 _ _ (sym (equal (View.up-After-first_repeat-equal _ _ _ c.before.before)) ∙ c.if-equal-ne0.false)
-
--- n is 1 to 64
-inputs : (c : Else-too_short) → (1 ≤ c.args.n) × (c.args.n ≤ max_inputs)
-inputs c = inside 1 max_inputs _ (sym c.outside.ensures ∙ c.if-outside.false)
 
 pub returns-then-outside : goal.returns-then-outside
 returns-then-outside c = c.refuse.ensures ∙ sym (if_yes 0 _ _ (sym c.outside.ensures ∙ c.if-outside.true))

@@ -1,5 +1,3 @@
--- ---- three blocks at a time
--- ---- the blocks left
 use native.Mathlib.Omega.{arith}
 use mathlib.Core.Path.{◌≡◌, ap, ◌∙◌}
 use lib.Count.{ones}
@@ -11,6 +9,8 @@ use Rattle.choice.proofs.judge.paired.Goals.{After-ones-gain, After-ones_of_thre
 
 pub loop-w-init : goal.loop-w-init
 loop-w-init c = pairing_start _ _ _ _ _ _ c.requires
+
+-- ---- three blocks at a time
 
 pub overflow_add-w : goal.overflow_add-w
 overflow_add-w c = let p = c.loop-w.invariant.pairs in omega (arith, p.within, p.fit)
@@ -54,6 +54,8 @@ pub loop-w-preserved : goal.loop-w-preserved
 loop-w-preserved c =
     let l = c.loop-w in
     pairing_on _ _ _ _ _ _ l.gain l.w l.invariant 3 _ (omega arith) (counts c)
+
+-- ---- the blocks left
 
 pub loop-w-2-init : goal.loop-w-2-init
 loop-w-2-init c = c.loop-w.invariant

@@ -1,4 +1,3 @@
--- ---- after all lines
 use Prim.Native.Nat.{ℕ, ◌-◌, ◌≤◌, ◌<◌}
 use native.Mathlib.Omega.{arith}
 use mathlib.Core.Path.{◌≡◌, refl, ap, ◌∙◌}
@@ -43,6 +42,8 @@ pub loop-i-preserved : goal.loop-i-preserved
 loop-i-preserved c =
     let s = start (goal.at.loop-i-preserved c).At-loop-i in
     going_more (gain s) s.args.n s.requires.n_nonzero.1 _ c.loop-i.b _ _ c.loop-i.i c.loop-i-test.true c.best_line-b.ensures c.loop-i.invariant
+
+-- ---- after all lines
 
 module _ (c : After-loop-i) where
   abbrev s : Start

@@ -1,6 +1,3 @@
--- ---- the record is right
--- ---- so many blocks
--- ---- part by part
 use Prim.Native.Nat.{ℕ, ◌+◌, ◌-◌, ◌*◌, ◌%◌, ◌^◌, ◌≤◌, ◌<◌}
 use native.Mathlib.Numerals.{add-one}
 use native.Mathlib.Omega.{arith}
@@ -26,6 +23,8 @@ use Rattle.load.proofs.blocks.is_file.Goals as goal
 use Rattle.load.proofs.blocks.is_file.Lts.View
 use Rattle.load.proofs.blocks.is_file.Goals.{After-plan-starts, After-table_laid, After-table_laid-2, After-table_laid-3, Else-file-starts, Else-not-head_laid, Else-not-right}
 
+-- ---- the record is right
+
 module _ (c : Else-not-right) where
   is_right : right_record c.args.unit ≡ true
   is_right = sym c.right.ensures ∙ c.if-not-right.false
@@ -48,6 +47,8 @@ module _ (c : Else-not-right) where
       is_laid c.args.file.now c.args.unit c.requires.unit_value c.requires.whole.some c.requires.file_value
       (at_all (λ (x : ℕ). x < 256) c.args.file.now 0 (λ i h. omega (arith, c.shared_slice_known-1.given i))) is_right
 
+-- ---- so many blocks
+
 past_is : (c : After-plan-starts) → c.plan-starts.result.past ≡ blocks_in c.args.unit
 past_is c = ap (λ (x : Starts). x.past) c.plan-starts.ensures
 
@@ -62,6 +63,8 @@ size c = omega (arith, past_is (View.up-After-plan-starts _ _ _ _ c.before.befor
 
 told : (c : Else-file-starts) → let u = c.args.unit in let f = c.args.file.now in is_file f ≡ ((head_laid u.p f && h_laid u f) && g_laid u f) && aux_laid u f
 told c = laid (View.up-Else-not-right _ _ _ _ c.before.before.before.before) ∙ laid_yes c.args.unit c.args.file.now (size c)
+
+-- ---- part by part
 
 head_told : (c : Else-not-head_laid) → head_laid c.args.unit.p c.args.file.now ≡ true
 head_told c = sym c.head_laid.ensures ∙ c.if-not-head_laid.false
