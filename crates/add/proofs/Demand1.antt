@@ -15,9 +15,7 @@ use Rattle.lists.proofs.Entries.Joined.{in_at}
 use Rattle.lists.proofs.Entries.Members.{get_d_in, get_d_map}
 use Rattle.vectors.specs.Bounds.{max_vectors}
 use Rattle.vectors.specs.Variable.{number_of, row_of}
-use Rattle.rows.specs.Fit.{is_free, first_fit}
-use Rattle.rows.specs.declared.Fit.{Fit}
-use Rattle.rows.specs.declared.Fit.TheVariants.{At, None}
+use Rattle.rows.specs.Fit.{is_free, first_fit, Fit, At, None}
 use Rattle.rows.proofs.Fits.First.{fit_at, fit_none}
 use Rattle.rows.proofs.Fits.Cells.{fits_free}
 use Rattle.record.specs.declared.Record.{Record}
@@ -25,11 +23,10 @@ use Rattle.record.specs.Record.{blank_record, kinds_in}
 use Rattle.record.specs.Tables.{Tables}
 use Rattle.record.specs.Formed.{well_formed}
 use Rattle.record.specs.Leads.{cell_in}
-use Rattle.recover.specs.declared.Recovered.{Recovered}
-use Rattle.recover.specs.Recover.{recover_of}
+use Rattle.recover.specs.Recover.{Recovered, recover_of}
 use Rattle.recover.specs.Every.{all_given, listed, list_in}
 use Rattle.recover.proofs.Every.{listed_number, holds_listed, holds_list}
-use Rattle.build.specs.declared.Refusal.{Refusal}
+use Rattle.build.specs.Built.{Refusal}
 use Rattle.build.specs.Refusals as refusals
 use Rattle.build.specs.Refusals.{or_else, ladder}
 use Rattle.build.specs.Build.{Outcome}

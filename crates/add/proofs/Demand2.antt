@@ -14,7 +14,7 @@ use Rattle.record.specs.Tables.{Tables}
 use Rattle.record.specs.Holds.{Holds}
 use Rattle.record.proofs.Soundness.{sound_says}
 use Rattle.record.proofs.Excesses.{excess_not_negative}
-use Rattle.lookup.specs.declared.Found.{Found}
+use Rattle.lookup.specs.Lookup.{Found}
 use Rattle.lookup.specs.Lookup.{lookup_of}
 use Rattle.lookup.proofs.Exact.{holds_lookup}
 use Rattle.recover.specs.Recover.{recover_of}

@@ -1,22 +1,25 @@
 -- An addition, refusal by refusal. Assumes nothing.
-use Prim.Native.Nat.{ℕ, zero, suc, ◌^◌, ◌≤◌, ◌<◌}
+use Prim.Native.Nat.{ℕ, suc, ◌^◌, ◌≤◌, ◌<◌}
 use native.Mathlib.Omega.{arith}
-use mathlib.Core.Path.{◌≡◌, sym, ap, ap₂, ◌∙◌}
+use mathlib.Core.Path.{◌≡◌, refl, sym, ap, ap₂, ◌∙◌}
 use mathlib.Core.Bool.{Bool, true, false, not}
 use mathlib.Core.List.{List, [], ◌∷◌}
 use borrow.Author.Tests.{le-leb, lt-leb, leb-false, ltb-false}
-use lib.ListN.{length, get_or}
+use lib.ListN.{length}
+use Rattle.std.proofs.Common.{Option, None, Some, MatchOption, Err}
 use Rattle.vectors.specs.Bounds.{max_vectors, max_variables, max_words}
 use Rattle.record.specs.declared.Record.{Record}
 use Rattle.record.specs.Tables.{Tables}
 use Rattle.record.specs.Leads.{cell_in}
 use Rattle.recover.specs.Every.{listed}
 use Rattle.recover.proofs.Every.{listed_formed, listed_few}
-use Rattle.build.specs.declared.Refusal.{Refusal}
+use Rattle.refusal.specs.declared.Refused.{Refused}
+use Rattle.build.specs.Built.{Refusal, Built, told, refused_as}
 use Rattle.build.specs.Refusals.{refuse_at, ladder}
-use Rattle.build.specs.Build.{refused}
+use Rattle.build.specs.Build.{after, refused}
+use Rattle.refusal.proofs.Numbers.{numbered}
 use Rattle.build.proofs.Refusing.Ladder.{if_yes, if_no, pass_at, if_passed}
-use Rattle.add.specs.Add.{refuse_new, check3, check5, add_refusal, add_of}
+use Rattle.add.specs.Add.{refuse_new, check3, check5, add_refusal, placed_in, add_of}
 use Rattle.add.specs.Inner.Seats.{seat_of, FirstsAre, NumberAt}
 use Rattle.add.specs.Inner.Checks.{checks}
 use Rattle.add.specs.Inner.Moves.{Ready}
@@ -24,7 +27,7 @@ use Rattle.add.proofs.Seating.{seat_row, seat_column}
 use Rattle.add.proofs.Refusing.{new_yes, new_no}
 use Rattle.add.proofs.Registered.{own_is, alike_is}
 use Rattle.add.proofs.Moving.Rows.{stands, holds}
-use Rattle.add.proofs.Adding.Ends.{listed_rungs, added_refused}
+use Rattle.add.proofs.Adding.Ends.{listed_rungs, added_refused, added_passed}
 
 module _ (u : Record) (t : Tables) (x : ℕ) where
   -- ---- the refusal
@@ -46,24 +49,38 @@ module _ (u : Record) (t : Tables) (x : ℕ) where
     added_beyond h = refused_by 5 (suc u.k) (past_listed ∙ new_yes 5 u _ _ (le-leb (2 ^ u.n) x h))
 
     -- the checks past these two, by the number whose first cell is that of x
-    pub refusal_is : x < 2 ^ u.n → (i : ℕ) → NumberAt u t (cell_in u t x) i → ladder (checks u t.aux (seat_of u t.h x) i) ≡ add_refusal u t x
-    refusal_is b i N =
+    pub refusal_is : x < 2 ^ u.n → (o : Option ℕ) → NumberAt u t (cell_in u t x) o → ladder (checks u t.aux (seat_of u t.h x) o) ≡ add_refusal u t x
+    refusal_is b o N =
         sym
         (past_listed
         ∙ new_no 5 u _ _ (lt-leb (2 ^ u.n) x b)
         ∙ ap₂ (λ (m : ℕ) (c : Bool). ladder (refuse_at 40 m ∷ check3 u ∷ check5 u t ∷ refuse_new 10 u c ∷ []))
-        (own_is u t x L i N b) (alike_is u t x L i N))
+        (own_is u t x L o N b) (alike_is u t x L o N))
+
+    -- a refusal of these checks, and what it is to be past them
+    module _ (b : x < 2 ^ u.n) (o : Option ℕ) (N : NumberAt u t (cell_in u t x) o) where
+      pub added_by : (e : Refused) → told (Err e) ≡ refused_as (ladder (checks u t.aux (seat_of u t.h x) o)) → after (told (Err e)) t.h t.g t.aux ≡ add_of u t x
+      added_by e h =
+          let k : told (Err e) ≡ refused_as (add_refusal u t x) = h ∙ ap refused_as (refusal_is b o N) in
+          ap (λ (r : Built). after r t.h t.g t.aux) k
+          ∙ sym (added_refused u t x (λ z. omega (arith, numbered e.refusal, ap (λ (r : Built). r.refusal) k, z)))
+
+      pub added_past : (ladder (checks u t.aux (seat_of u t.h x) o)).number ≡ 0 → add_of u t x ≡ placed_in u t x
+      added_past z = added_passed u t x (sym (ap (λ (r : Refusal). r.number) (refusal_is b o N)) ∙ z)
 
     -- ---- what is known past the refusals
 
-    pub number_low : (i : ℕ) → NumberAt u t (cell_in u t x) i → (i < length t.aux) × (u.k ≤ max_vectors)
-    number_low zero N = (omega (arith, (listed_formed u t L).words_held), (listed_few u t L).0)
-    number_low (suc i) N = (omega (arith, (N.some (omega arith)).0, (listed_formed u t L).words_held), (listed_few u t L).0)
+    pub few : u.k ≤ max_vectors
+    few = (listed_few u t L).0
 
-    pub ready : (firsts : List ℕ) → FirstsAre u t firsts → length firsts ≡ max_words → length u.variables ≡ max_variables → ((i : ℕ) → get_or t.h i 0 < 2 ^ 16) → (i : ℕ)
-        → (ladder (checks u t.aux (seat_of u t.h x) i)).number ≡ 0 → Ready u t firsts (seat_of u t.h x)
-    ready firsts F s v d i e =
-        let p = pass_at (checks u t.aux (seat_of u t.h x) i) e in
+    pub number_low : (o : Option ℕ) → NumberAt u t (cell_in u t x) o → MatchOption o Unit (λ i. (0 < i) × (i < length t.aux))
+    number_low None N = tt
+    number_low (Some i) N = let p = N.some i refl in (p.0, omega (arith, p.1, (listed_formed u t L).words_held))
+
+    pub ready : (firsts : List ℕ) → FirstsAre u t firsts → length firsts ≡ max_words → length u.variables ≡ max_variables → (seat_of u t.h x).displacement < 2 ^ 16 → (o : Option ℕ)
+        → (ladder (checks u t.aux (seat_of u t.h x) o)).number ≡ 0 → Ready u t firsts (seat_of u t.h x)
+    ready firsts F s v d o e =
+        let p = pass_at (checks u t.aux (seat_of u t.h x) o) e in
         let k : u.k < max_vectors = leb-false _ _ (if_passed 2 _ (p 1)) in
         let w : suc (suc u.k) ≤ length t.aux = ltb-false _ _ (if_passed 4 _ (p 2)) in
         let W = listed_formed u t L in
@@ -76,7 +93,7 @@ module _ (u : Record) (t : Tables) (x : ℕ) where
           firsts_held = omega arith;
           row = omega (arith, seat_row u x W.bounds v, W.rows_held);
           column = seat_column u x W.bounds v;
-          displacement = d _;
+          displacement = d;
           stands = stands u t x L firsts F;
           holds = holds u t x L firsts F;
         }

@@ -5,8 +5,7 @@ use Rattle.vectors.specs.Bounds.{max_vectors}
 use Rattle.vectors.specs.Variable.{number_of, row_of, column_of}
 use Rattle.vectors.specs.Word.{word_of}
 use Rattle.rows.specs.Care.{Care, in_row}
-use Rattle.rows.specs.Fit.{is_free, first_fit, put}
-use Rattle.rows.specs.declared.Fit.TheVariants.{At, None}
+use Rattle.rows.specs.Fit.{is_free, first_fit, put, At, None}
 use Rattle.record.specs.declared.Record.{Record}
 use Rattle.record.specs.Record.{mark_amended, excess_of, kinds_in}
 use Rattle.record.specs.Tables.{Tables, over}
@@ -14,7 +13,7 @@ use Rattle.record.specs.Leads.{word_in, cell_in}
 use Rattle.record.specs.Holds.{index_of}
 use Rattle.recover.specs.Recover.{first_cell}
 use Rattle.recover.specs.Every.{listed, list_in}
-use Rattle.build.specs.declared.Refusal.{Refusal}
+use Rattle.build.specs.Built.{Refusal}
 use Rattle.build.specs.Refusals as refusals
 use Rattle.build.specs.Refusals.{refuse_if, refuse_at, ladder}
 use Rattle.build.specs.Build.{Outcome, cares_from, refused, accepted}

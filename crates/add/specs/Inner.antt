@@ -3,3 +3,4 @@ pub mod Seats
 pub mod Mates
 pub mod Checks
 pub mod Moves
+pub mod Rows

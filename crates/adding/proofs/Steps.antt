@@ -19,7 +19,7 @@ use Rattle.record.specs.Formed.{sound}
 use Rattle.record.proofs.Formed.{well_formed_facts}
 use Rattle.record.proofs.Marks.{kinds_in_lem}
 use Rattle.record.proofs.Soundness.{sound_says}
-use Rattle.build.specs.declared.Refusal.{Refusal}
+use Rattle.build.specs.Built.{Refusal}
 use Rattle.build.specs.Build.{Outcome, outcome, placing_of, chosen_refusal, given_refusal, build_chosen, build_given, rows_share, chosen_kinds}
 use Rattle.build.proofs.Holding.Ends.{outcome_accepted}
 use Rattle.file.specs.File.{longest_file, file_of}

@@ -10,10 +10,10 @@ use lib.Seq.{drop-cons}
 use Rattle.record.specs.declared.Record.{Record}
 use Rattle.record.specs.Tables.{Tables}
 use Rattle.record.specs.Formed.{sound}
-use Rattle.build.specs.declared.Built.{Built}
+use Rattle.build.specs.Built.{Built}
 use Rattle.build.specs.Build.{Outcome, accepted}
 use Rattle.add.specs.Add.{add_of}
-use Rattle.add.proofs.Adding.Sound.{added_built, added_sound}
+use Rattle.add.proofs.Adding.Sound.{added_sound}
 use Rattle.print.specs.Print.{fitted}
 use Rattle.pack.specs.Pack.{packed, pack_built}
 use Rattle.pack.proofs.Packs.{built_packed}
@@ -37,40 +37,34 @@ module _ (u : Record) (t : Tables) (x : ℕ) (xs : List ℕ) where
 
 -- ---- the loop: i of the vectors are added, and the rest is to be added to what is left so far
 
-pub record Adding (u : Record) (t : Tables) (xs : List ℕ) (i : ℕ) (b : Built) (now : Tables) : Type 0 where
-  pub is : b ≡ accepted b.unit
-  pub within : i ≤ length xs
-  pub rest : add_all u t xs ≡ add_all b.unit now (drop i xs)
+pub record Adding (u : Record) (t : Tables) (xs : List ℕ) (i : ℕ) (v : Record) (now : Tables) : Type 0 where
+  pub rest : add_all u t xs ≡ add_all v now (drop i xs)
 
 module _ (u : Record) (t : Tables) (xs : List ℕ) where
-  pub adding_none : Adding u t xs 0 (accepted u) t
-  adding_none = record { is = refl; within = omega arith; rest = refl }
+  pub adding_none : Adding u t xs 0 u t
+  adding_none = record { rest = refl }
 
-  module _ (i : ℕ) (b : Built) (now : Tables) (a : Adding u t xs i b now) where
-    pub adding_end : length xs ≤ i → record { built = b; tables = now } ≡ add_all u t xs
+  module _ (i : ℕ) (v : Record) (now : Tables) (a : Adding u t xs i v now) where
+    pub adding_end : length xs ≤ i → record { built = accepted v; tables = now } ≡ add_all u t xs
     unfolding add_all
-    adding_end h =
-        ap (λ (c : Built). record { built = c; tables = now }) a.is
-        ∙ sym (a.rest ∙ ap (add_all b.unit now) (drop_of_length-le xs {i = i} h))
+    adding_end h = sym (a.rest ∙ ap (add_all v now) (drop_of_length-le xs {i = i} h))
 
-    module _ (h : i < length xs) (b' : Built) (then : Tables) (e : record { built = b'; tables = then } ≡ add_of b.unit now (get_or xs i 0)) where
-      step : add_all u t xs ≡ add_all b.unit now (get_or xs i 0 ∷ drop (suc i) xs)
-      step = a.rest ∙ ap (add_all b.unit now) (drop-cons xs i 0 h)
+    module _ (h : i < length xs) (b : Built) (then : Tables) (e : record { built = b; tables = then } ≡ add_of v now (get_or xs i 0)) where
+      step : add_all u t xs ≡ add_all v now (get_or xs i 0 ∷ drop (suc i) xs)
+      step = a.rest ∙ ap (add_all v now) (drop-cons xs i 0 h)
 
-      pub adding_refused : (b'.refusal ≡ 0 → ⊥) → record { built = b'; tables = then } ≡ add_all u t xs
-      adding_refused n = e ∙ sym (step ∙ next_refused b.unit now (get_or xs i 0) (drop (suc i) xs) (λ z. n (ap (λ (o : Outcome). o.built.refusal) e ∙ z)))
+      pub adding_refused : (b.refusal ≡ 0 → ⊥) → record { built = b; tables = then } ≡ add_all u t xs
+      adding_refused n = e ∙ sym (step ∙ next_refused v now (get_or xs i 0) (drop (suc i) xs) (λ z. n (ap (λ (o : Outcome). o.built.refusal) e ∙ z)))
 
-      pub adding_more : b'.refusal ≡ 0 → Adding u t xs (i + 1) b' then
+      pub adding_more : b.refusal ≡ 0 → Adding u t xs (i + 1) b.unit then
       adding_more z =
-          let y : (add_of b.unit now (get_or xs i 0)).built.refusal ≡ 0 = ap (λ (o : Outcome). o.built.refusal) (sym e) ∙ z in
+          let y : (add_of v now (get_or xs i 0)).built.refusal ≡ 0 = ap (λ (o : Outcome). o.built.refusal) (sym e) ∙ z in
           record {
-            is = ap (λ (o : Outcome). o.built) e ∙ added_built b.unit now (get_or xs i 0) y ∙ ap (λ (o : Outcome). accepted o.built.unit) (sym e);
-            within = rw (add-one i) h;
             rest =
                 step
-                ∙ next_added b.unit now (get_or xs i 0) (drop (suc i) xs) y
+                ∙ next_added v now (get_or xs i 0) (drop (suc i) xs) y
                 ∙ ap (λ (o : Outcome). add_all o.built.unit o.tables (drop (suc i) xs)) (sym e)
-                ∙ ap (λ (j : ℕ). add_all b'.unit then (drop j xs)) (sym (add-one i));
+                ∙ ap (λ (j : ℕ). add_all b.unit then (drop j xs)) (sym (add-one i));
           }
 
 -- ---- a unit to which one vector at least was added is sound

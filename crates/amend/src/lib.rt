@@ -4,33 +4,27 @@
 ghost use Rattle.std.specs.Prelude.{◌≡◌};
 ghost use Rattle.record.specs.Tables.{lent};
 ghost use Rattle.build.specs.Build.{after};
+ghost use Rattle.build.specs.Built.{told};
 ghost use Rattle.print.specs.Print.{printed, fitted};
 ghost use Rattle.amend.specs.Amend.{add_all, amend_text, amend_tables};
 
-use unit::{Built, Record};
+use unit::{Record, Refused};
 
 // Adds the vectors in their order, until one is refused.
-fn add_all(unit: Record, h: &mut [u16], g: &mut [u16], aux: &mut [u64], vectors: &[u64]) -> Built
-    ensures { after result h.new g.new aux.new
-        ≡ add_all unit (lent h.old g.old aux.old) vectors.now }
+fn add_all(
+    unit: Record,
+    h: &mut [u16],
+    g: &mut [u16],
+    aux: &mut [u64],
+    vectors: &[u64],
+) -> Result<Record, Refused>
+    ensures { after (told result) h.new g.new aux.new ≡ add_all unit (lent h.old g.old aux.old) vectors.now }
 {
-    let mut built = Built {
-        refusal: 0,
-        place: 0,
-        needed: 0,
-        unit,
-    };
-    let mut i = 0;
-    while i < vectors.len() {
-        let x = vectors[i];
-        i += 1;
-        let before = built.unit;
-        built = add::add(before, h, g, aux, x);
-        if built.refusal != 0 {
-            return built;
-        }
+    let mut unit = unit;
+    for x in vectors {
+        unit = add::add(unit, h, g, aux, *x)?;
     }
-    built
+    Ok(unit)
 }
 
 // Adds the keys of a text to a unit, and writes the file of the unit then, or the refusal, or `input` where the text is no keys: answers how
@@ -46,12 +40,10 @@ pub fn amend(
     ensures out_after { printed result out.new ≡ fitted (amend_text text.now unit (lent h.old g.old aux.old)) out.old }
     ensures aux_after { lent h.new g.new aux.new ≡ amend_tables text.now unit (lent h.old g.old aux.old) }
 {
-    let given = find::keys_in(text);
-    if !given.good {
+    let Some(given) = find::keys_in(text) else {
         return print::text(b"input\n", out);
-    }
-    let count = given.count;
+    };
     let words = given.words;
-    let built = add_all(unit, h, g, aux, &words[..count]);
-    pack::write_built(built, h, g, aux, out)
+    let added = add_all(unit, h, g, aux, &words[..given.count]);
+    pack::write_built(added, h, g, aux, out)
 }

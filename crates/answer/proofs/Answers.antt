@@ -1,11 +1,17 @@
 -- The program's answer, from what a text leaves. Assumes nothing.
 use Prim.Native.Nat.{ℕ}
+use native.Mathlib.Omega.{arith}
 use mathlib.Core.Path.{◌≡◌, refl, sym, ap, ◌∙◌}
 use mathlib.Core.Bool.{Bool, true, false}
 use mathlib.Core.List.{List}
 use borrow.Author.Tests.{eqb-true, eqb-false, eq-eqb, ne_eqb}
 use lib.Dec.{eqb}
-use Rattle.build.specs.declared.Built.{Built}
+use Rattle.std.specs.Prelude.{Ok, Err}
+use Rattle.refusal.specs.declared.Refused.{Refused}
+use Rattle.refusal.specs.Refusal.{number_of}
+use Rattle.record.specs.declared.Record.{Record}
+use Rattle.build.specs.Built.{Built, told}
+use Rattle.refusal.proofs.Numbers.{numbered}
 use Rattle.record.specs.Tables.{Tables}
 use Rattle.record.specs.Formed.{sound}
 use Rattle.record.proofs.Soundness.{sound_says}
@@ -27,6 +33,13 @@ module _ (b : Built) (t : Tables) (out : List ℕ) where
   pub built_refused : (b.refusal ≡ 0 → ⊥) → fitted (refused_text b.refusal b.place) out ≡ print_built b t out
   unfolding print_built
   built_refused n = rw (ne_eqb b.refusal 0 n, print_built)
+
+module _ (t : Tables) (out : List ℕ) where
+  pub unit_printed : (u : Record) → print_of u t out ≡ print_built (told (Ok u)) t out
+  unit_printed u = built_accepted (told (Ok u)) t out refl
+
+  pub refusal_printed : (r : Refused) → fitted (refused_text (number_of r.refusal) r.place) out ≡ print_built (told (Err r)) t out
+  refusal_printed r = built_refused (told (Err r)) t out (λ z. omega (arith, numbered r.refusal))
 
 module _ (o : Outcome) where
   pub text_accepted : o.built.refusal ≡ 0 → text_of o.built.unit o.tables ≡ built_text o

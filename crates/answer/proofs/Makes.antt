@@ -14,7 +14,7 @@ use Rattle.record.specs.Tables.{Tables}
 use Rattle.record.specs.Formed.{sound}
 use Rattle.build.specs.Build.{Outcome, build_chosen}
 use Rattle.build.proofs.Holding.Holds.{chosen_holds}
-use Rattle.input.specs.declared.Input.{Input}
+use Rattle.input.specs.Input.{Input}
 use Rattle.input.specs.Fields.{fields}
 use Rattle.input.specs.Decimal.{good_field, value_of}
 use Rattle.input.specs.Input.{max_text, max_listed, body, good_text, numbers_in, listed, input_from, input_of, vectors_of}

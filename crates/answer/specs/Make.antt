@@ -1,12 +1,13 @@
 -- What a text leaves: whether it is a list, and if so what the build of its unit leaves (SCOPE 14.1 to 14.4).
-use Rattle.std.specs.Prelude.{ℕ, suc, ◌-◌, ◌^◌, Bool, true, false, List, drop, replicate}
+use Rattle.std.specs.Prelude.{ℕ, suc, ◌-◌, ◌^◌, Bool, true, false, Option, Some, None, Result, List, drop, replicate}
 use Rattle.vectors.specs.Bounds.{max_cells, max_rows}
 use Rattle.record.specs.Record.{blank_record}
 use Rattle.record.specs.Tables.{Tables, lent}
-use Rattle.build.specs.declared.Built.{Built}
+use Rattle.refusal.specs.declared.Refused.{Refused}
+use Rattle.record.specs.declared.Record.{Record}
+use Rattle.build.specs.Built.{Built, told}
 use Rattle.build.specs.Build.{Outcome, after, build_chosen}
 use Rattle.input.specs.Input.{max_listed, good_text, numbers_in, input_of}
-use Rattle.answer.specs.declared.Made.{Made}
 
 -- tables as long as any unit needs, so that refusals 5 and 12 never come
 abbrev pub roomy : Tables
@@ -20,12 +21,14 @@ pub record Making : Type 0 where
   pub good : Bool
   pub outcome : Outcome
 
-abbrev pub making : Made → List ℕ → List ℕ → List ℕ → Making
-making m h g aux = record { good = m.good; outcome = after m.built h g aux }
-
 -- beside a text that is no list
 abbrev pub no_build : Built
 no_build = record { refusal = 0; place = 0; needed = 0; unit = blank_record }
+
+-- what the code's answer says, and the tables after the call
+abbrev pub making : Option (Result Record Refused) → List ℕ → List ℕ → List ℕ → Making
+making (Some r) h g aux = record { good = true; outcome = after (told r) h g aux }
+making None h g aux = record { good = false; outcome = after no_build h g aux }
 
 -- what a text leaves in the tables t; one that is no list, nothing
 unfoldable pub make_of : List ℕ → Tables → Making

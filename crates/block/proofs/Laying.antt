@@ -1,3 +1,4 @@
 -- Bytes laid into a block.
 pub mod Putting
+pub mod Held
 pub mod Words

@@ -1,4 +1,5 @@
 pub mod Bytes
 pub mod Block
+pub mod Held
 pub mod Look
 pub mod Inner

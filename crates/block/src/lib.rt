@@ -1,15 +1,17 @@
 // Blocks of 512 bytes: an opening of four bytes, a payload, and a check over both.
 #![tactic(auto)]
 
-ghost use Rattle.std.specs.Prelude.{◌≡◌, ◌++◌, ◌+◌, ◌-◌, ◌*◌, ◌%◌, ◌≤◌, ◌<◌, length, take, drop, replicate};
+ghost use Rattle.std.specs.Prelude.{◌≡◌, ◌++◌, ◌+◌, ◌-◌, ◌*◌, ◌%◌, ◌≤◌, ◌<◌, length, take, drop, map, replicate};
 ghost use Rattle.std.proofs.lemmas.List.Edits.{sets};
 ghost use Rattle.block.specs.Bytes.{little_of, words_of};
-ghost use Rattle.block.specs.Block.{block_size, check_at, short_word, long_word, short_words, long_words, modulus, sum_of, weigh, opening_of, sealed as Block·sealed, block_of, in_block};
+ghost use Rattle.block.specs.Block.{block_size, check_at, modulus, sum_of, weigh, opening_of, sealed as Block·sealed, block_of, in_block};
 ghost use Rattle.block.specs.Inner.Columns.{lanes, half_size, Columns, Added};
 
 mod read;
+mod word;
 
-pub use read::{blank, laid, number, right, words16, words64};
+pub use read::{blank, laid, number, right, words};
+pub use word::Word;
 
 // The bytes of a block, and where its payload and its check begin.
 pub const SIZE: usize = 512;
@@ -25,17 +27,27 @@ const LANES: usize = 16;
 
 const HALF: usize = LANES * LANES;
 
-// Words of 16 and of 64 bits that the payload of a block holds.
-pub const WORDS16: usize = (CHECK_AT - PAYLOAD_AT) / 2;
-
-pub const WORDS64: usize = (CHECK_AT - PAYLOAD_AT) / 8;
-
-// How a block begins; of the number the lowest 16 bits are written.
+// How a block begins; of the number the lowest 16 bits are written. The kind is a number: the definitions opening_of, block_of and laid_out
+// have it so, and which kinds there are is crate file's (layout::BlockKind).
 #[derive(Clone, Copy)]
 pub struct Opening {
     pub kind: u8,
     pub version: u8,
     pub number: usize,
+}
+
+impl Opening {
+    // The bytes in front of a payload.
+    fn bytes(self) -> [u8; PAYLOAD_AT]
+        ensures { result ≡ opening_of self }
+    {
+        [
+            self.kind,
+            self.version,
+            (self.number % 256) as u8,
+            (self.number / 256 % 256) as u8,
+        ]
+    }
 }
 
 // The sum of some bytes, and their sum with weights that fall by one to 1 at the last.
@@ -45,36 +57,39 @@ struct Totals {
     weighed: u32,
 }
 
-// Adds a row of bytes to the sums of the columns, and these to their running sums.
-fn add_row(block: &[u8], start: usize, row: usize, sums: &mut [u16], runs: &mut [u16])
-    requires row_lt_lanes { (row < lanes) × (start + lanes * row + lanes ≤ length block.now) }
+// Adds a row of bytes to the sums of the columns, and these to their running sums. The two are no struct: half makes them, lends them to its
+// two parts and lets them go.
+fn add_row(
+    block: &[u8; SIZE],
+    start: usize,
+    row: usize,
+    sums: &mut [u16; LANES],
+    runs: &mut [u16; LANES],
+)
+    requires row_lt_lanes { (row < lanes) × (start + half_size ≤ block_size) }
     requires columns { Columns row sums.old runs.old }
     ensures { Added (take lanes (drop (start + lanes * row) block.now)) row sums.old runs.old sums.new runs.new }
 {
     let at = start + LANES * row;
-    let mut j = 0;
-    while j < LANES {
-        let s = sums[j] + block[at + j] as u16;
+    for j in 0..LANES {
+        let s = sums[j] + u16::from(block[at + j]);
         sums[j] = s;
         runs[j] += s;
-        j += 1;
     }
 }
 
 // The sums of all bytes, from those of the columns and their running sums.
-fn fold(sums: &[u16], runs: &[u16]) -> Totals
+fn fold(sums: &[u16; LANES], runs: &[u16; LANES]) -> Totals
     requires { Columns lanes sums.now runs.now × (sum_of sums.now ≤ sum_of runs.now) }
     ensures { (result.plain ≡ sum_of sums.now) × (result.weighed + lanes * sum_of sums.now ≡ lanes * sum_of runs.now + weigh lanes sums.now) }
 {
     let mut s: u32 = 0;
     let mut t: u32 = 0;
     let mut r: u32 = 0;
-    let mut j = 0;
-    while j < LANES {
-        s += sums[j] as u32;
+    for (sum, run) in sums.iter().zip(runs.iter()) {
+        s += u32::from(*sum);
         t += s;
-        r += runs[j] as u32;
-        j += 1;
+        r += u32::from(*run);
     }
     Totals {
         plain: s,
@@ -84,34 +99,29 @@ fn fold(sums: &[u16], runs: &[u16]) -> Totals
 
 // The sums of 256 bytes. They are taken as rows of 16: what is summed by columns is summed 16 bytes at a time, and a column's running sum
 // weighs its bytes by their rows.
-fn half(block: &[u8], start: usize) -> Totals
-    requires { start + half_size ≤ length block.now }
+fn half(block: &[u8; SIZE], start: usize) -> Totals
+    requires { start + half_size ≤ block_size }
     ensures plain_value { (result.plain ≡ sum_of (take half_size (drop start block.now))) × (result.weighed ≡ weigh half_size (take half_size (drop start block.now))) }
     ensures plain_bound { (result.plain ≤ 65280) × (result.weighed ≤ 65280 * 256) }
 {
     let mut sums = [0u16; LANES];
     let mut runs = [0u16; LANES];
-    let mut row = 0;
-    while row < LANES {
+    for row in 0..LANES {
         add_row(block, start, row, &mut sums, &mut runs);
-        row += 1;
     }
     fold(&sums, &runs)
 }
 
 // The sums of the check's own bytes.
-fn own(block: &[u8]) -> Totals
-    requires { length block.now ≡ block_size }
+fn own(block: &[u8; SIZE]) -> Totals
     ensures plain_value { (result.plain ≡ sum_of (drop check_at block.now)) × (result.weighed ≡ weigh 4 (drop check_at block.now)) }
     ensures plain_bound { (result.plain ≤ 1020) × (result.weighed ≤ 10200) }
 {
     let mut s: u32 = 0;
     let mut t: u32 = 0;
-    let mut i = CHECK_AT;
-    while i < SIZE {
-        s += block[i] as u32;
+    for b in &block[CHECK_AT..] {
+        s += u32::from(*b);
         t += s;
-        i += 1;
     }
     Totals {
         plain: s,
@@ -120,8 +130,7 @@ fn own(block: &[u8]) -> Totals
 }
 
 // The two sums of the bytes before the check, modulo 65,521: those of the whole block, less what the check's own bytes have in them.
-fn sums(block: &[u8]) -> Totals
-    requires { length block.now ≡ block_size }
+fn sums(block: &[u8; SIZE]) -> Totals
     ensures { (result.plain ≡ sum_of (take check_at block.now) % modulus) × (result.weighed ≡ weigh check_at (take check_at block.now) % modulus) }
 {
     let a = half(block, 0);
@@ -135,52 +144,24 @@ fn sums(block: &[u8]) -> Totals
     }
 }
 
-// Writes the lowest bytes of a number, as many as size says.
-fn put(number: u64, size: usize, block: &mut [u8], at: usize)
-    requires { at + size ≤ length block.old }
-    ensures { block.new ≡ sets block.old at (little_of size number) }
+// Writes the lowest bytes of a number, as many as the place has.
+pub fn put_number(number: u64, place: &mut [u8])
+    ensures { place.new ≡ little_of (length place.old) number }
 {
-    let end = at + size;
     let mut rest = number;
-    let mut i = at;
-    while i < end {
-        block[i] = (rest % 256) as u8;
+    for b in place.iter_mut() {
+        *b = (rest % 256) as u8;
         rest /= 256;
-        i += 1;
     }
 }
 
 // Writes the check behind the bytes that it is of.
-fn seal(block: &mut [u8])
-    requires { length block.old ≡ block_size }
+fn seal(block: &mut [u8; SIZE])
     ensures { block.new ≡ Block·sealed (take check_at block.old) }
 {
     let s = sums(block);
-    put(s.plain as u64, 2, block, CHECK_AT);
-    put(s.weighed as u64, 2, block, CHECK_AT + 2);
-}
-
-// Writes the opening.
-fn put_opening(opening: Opening, block: &mut [u8])
-    requires { length block.old ≡ block_size }
-    ensures { block.new ≡ sets block.old 0 (opening_of opening) }
-{
-    block[0] = opening.kind;
-    block[1] = opening.version;
-    block[2] = (opening.number % 256) as u8;
-    block[3] = (opening.number / 256 % 256) as u8;
-}
-
-// Clears the payload from a place on.
-fn clear(block: &mut [u8], at: usize)
-    requires { (length block.old ≡ block_size) × (at ≤ check_at) }
-    ensures { block.new ≡ sets block.old at (replicate (check_at - at) 0) }
-{
-    let mut i = at;
-    while i < CHECK_AT {
-        block[i] = 0;
-        i += 1;
-    }
+    put_number(u64::from(s.plain), &mut block[CHECK_AT..CHECK_AT + 2]);
+    put_number(u64::from(s.weighed), &mut block[CHECK_AT + 2..]);
 }
 
 // A block with its opening and nothing else.
@@ -188,7 +169,7 @@ pub fn opened(opening: Opening) -> [u8; SIZE]
     ensures { result ≡ opening_of opening ++ replicate check_at 0 }
 {
     let mut b = [0u8; SIZE];
-    put_opening(opening, &mut b);
+    b[..PAYLOAD_AT].copy_from_slice(&opening.bytes());
     b
 }
 
@@ -202,36 +183,19 @@ pub fn sealed(block: [u8; SIZE]) -> [u8; SIZE]
 }
 
 // Writes the block of the first words, as many as it holds; a slice that is not as long as a block stays as it is.
-pub fn fill16(opening: Opening, words: &[u16], block: &mut [u8])
-    ensures { block.new ≡ in_block (block_of opening (words_of short_word (take short_words words.now))) block.old }
+pub fn fill<W: Word>(opening: Opening, words: &[W], block: &mut [u8])
+    ensures { block.new ≡ in_block (block_of opening (words_of W.SIZE (take W.PER_BLOCK (map W.value words.now)))) block.old }
 {
-    if block.len() != SIZE {
+    let Some(block) = block.as_mut_array::<SIZE>() else {
         return;
+    };
+    block[..PAYLOAD_AT].copy_from_slice(&opening.bytes());
+    let used = W::PER_BLOCK.min(words.len());
+    for (i, w) in words[..used].iter().enumerate() {
+        let at = PAYLOAD_AT + W::SIZE * i;
+        put_number(w.to_number(), &mut block[at..at + W::SIZE]);
     }
-    put_opening(opening, block);
-    let last = lists::least(WORDS16, words.len());
-    let mut i = 0;
-    while i < last {
-        put(words[i] as u64, 2, block, PAYLOAD_AT + 2 * i);
-        i += 1;
-    }
-    clear(block, PAYLOAD_AT + 2 * last);
-    seal(block);
-}
-
-pub fn fill64(opening: Opening, words: &[u64], block: &mut [u8])
-    ensures { block.new ≡ in_block (block_of opening (words_of long_word (take long_words words.now))) block.old }
-{
-    if block.len() != SIZE {
-        return;
-    }
-    put_opening(opening, block);
-    let last = lists::least(WORDS64, words.len());
-    let mut i = 0;
-    while i < last {
-        put(words[i], 8, block, PAYLOAD_AT + 8 * i);
-        i += 1;
-    }
-    clear(block, PAYLOAD_AT + 8 * last);
+    let rest = PAYLOAD_AT + W::SIZE * used;
+    block[rest..CHECK_AT].fill(0);
     seal(block);
 }

@@ -1,23 +1,19 @@
 // What is read of a block: numbers, its check, its opening and its words.
-ghost use Rattle.std.specs.Prelude.{◌≡◌, ◌+◌, ◌≤◌, min, length};
+ghost use Rattle.std.specs.Prelude.{◌≡◌, ◌+◌, ◌≤◌, min, length, map};
 ghost use Rattle.block.specs.Bytes.{number_at};
-ghost use Rattle.block.specs.Block.{short_word, long_word, short_words, long_words, right_check};
+ghost use Rattle.block.specs.Block.{right_check};
 ghost use Rattle.block.specs.Look.{blank_from, laid_out, words_over};
 
-use crate::{CHECK_AT, Opening, PAYLOAD_AT, SIZE, WORDS16, WORDS64};
+use crate::{CHECK_AT, Opening, PAYLOAD_AT, SIZE, Word};
 
 // The number that the bytes at a place make, as many as size says.
 fn word(bytes: &[u8], at: usize, size: usize) -> u64
     requires { (at + size ≤ length bytes.now) × (size ≤ 8) }
     ensures { result ≡ number_at size at bytes.now }
 {
-    let mut number: u64 = 0;
-    let mut i = at + size;
-    while at < i {
-        i -= 1;
-        number = 256 * number + bytes[i] as u64;
-    }
-    number
+    let mut whole = [0u8; 8];
+    whole[..size].copy_from_slice(&bytes[at..at + size]);
+    u64::from_le_bytes(whole)
 }
 
 // The number that the bytes at a place make, as many as size says, eight at most; those that are not there count as 0.
@@ -27,34 +23,30 @@ pub fn number(bytes: &[u8], at: usize, size: usize) -> u64
     if bytes.len() < at {
         return 0;
     }
-    let most = lists::least(size, 8);
-    word(bytes, at, lists::least(most, bytes.len() - at))
+    word(bytes, at, size.min(8).min(bytes.len() - at))
 }
 
 // Whether a block ends in the check of its other bytes; no slice of another length does.
 pub fn right(block: &[u8]) -> bool
     ensures { result ≡ right_check block.now }
 {
-    if block.len() != SIZE {
+    let Some(block) = block.as_array::<SIZE>() else {
         return false;
-    }
+    };
     let s = crate::sums(block);
-    if word(block, CHECK_AT, 2) != s.plain as u64 {
-        return false;
-    }
-    word(block, CHECK_AT + 2, 2) == s.weighed as u64
+    word(block, CHECK_AT, 2) == u64::from(s.plain)
+        && word(block, CHECK_AT + 2, 2) == u64::from(s.weighed)
 }
 
-// Whether the bytes from a place up to the check are 0.
+// Whether the bytes from a place up to the check are 0. They are summed to the end: with no way out of the loop many bytes are summed at
+// a time.
 pub fn blank(block: &[u8], at: usize) -> bool
     ensures { result ≡ blank_from at block.now }
 {
-    let end = lists::least(CHECK_AT, block.len());
+    let end = CHECK_AT.min(block.len());
     let mut s: u32 = 0;
-    let mut i = at;
-    while i < end {
-        s += block[i] as u32;
-        i += 1;
+    for b in &block[at.min(end)..end] {
+        s += u32::from(*b);
     }
     s == 0
 }
@@ -63,49 +55,18 @@ pub fn blank(block: &[u8], at: usize) -> bool
 pub fn laid(opening: Opening, at: usize, block: &[u8]) -> bool
     ensures { result ≡ laid_out opening at block.now }
 {
-    if block.len() < PAYLOAD_AT {
-        return false;
-    }
-    if block[0] != opening.kind {
-        return false;
-    }
-    if block[1] != opening.version {
-        return false;
-    }
-    if block[2] != (opening.number % 256) as u8 {
-        return false;
-    }
-    if block[3] != (opening.number / 256 % 256) as u8 {
-        return false;
-    }
-    blank(block, at)
+    block.starts_with(&opening.bytes()) && blank(block, at)
 }
 
 // Takes the first words of a block, as many as are lent and it holds; a slice that is not as long as a block gives none.
-pub fn words16(block: &[u8], words: &mut [u16])
-    ensures { words.new ≡ words_over short_word short_words block.now words.old }
+pub fn words<W: Word>(block: &[u8], words: &mut [W])
+    ensures { map W.value words.new ≡ words_over W.SIZE W.PER_BLOCK block.now (map W.value words.old) }
 {
-    if block.len() != SIZE {
+    let Some(block) = block.as_array::<SIZE>() else {
         return;
-    }
-    let last = lists::least(WORDS16, words.len());
-    let mut i = 0;
-    while i < last {
-        words[i] = word(block, PAYLOAD_AT + 2 * i, 2) as u16;
-        i += 1;
-    }
-}
-
-pub fn words64(block: &[u8], words: &mut [u64])
-    ensures { words.new ≡ words_over long_word long_words block.now words.old }
-{
-    if block.len() != SIZE {
-        return;
-    }
-    let last = lists::least(WORDS64, words.len());
-    let mut i = 0;
-    while i < last {
-        words[i] = word(block, PAYLOAD_AT + 8 * i, 8);
-        i += 1;
+    };
+    let used = W::PER_BLOCK.min(words.len());
+    for i in 0..used {
+        words[i] = W::of_number(word(block, PAYLOAD_AT + W::SIZE * i, W::SIZE));
     }
 }

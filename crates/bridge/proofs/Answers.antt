@@ -5,34 +5,32 @@ use mathlib.Core.Path.{◌≡◌, refl, sym, ap, ap₂, ◌∙◌}
 use mathlib.Core.Bool.{Bool, true, false, cond}
 use mathlib.Core.List.{List, map}
 use lib.ListN.{get_or}
+use Rattle.std.proofs.Common.{Result, Ok, Err}
+use Rattle.refusal.specs.declared.Refusal.{Refusal}
 use Rattle.vectors.specs.declared.Variable.{Variable}
-use Rattle.build.specs.declared.Built.{Built}
-use Rattle.lookup.specs.declared.Found.{Found}
-use Rattle.recover.specs.declared.Recovered.{Recovered}
+use Rattle.build.specs.Built.{Built}
+use Rattle.lookup.specs.Lookup.{Found, told, not_found, lookup_of}
+use Rattle.recover.specs.Recover.{Recovered, not_recovered, recover_of}
 use Rattle.record.specs.declared.Record.{Record}
 use Rattle.record.specs.Tables.{Tables, lent}
 use Rattle.build.specs.Build.{Outcome, after, build_chosen, build_given}
-use Rattle.lookup.specs.Lookup.{not_found, lookup_of}
-use Rattle.recover.specs.Recover.{not_recovered, recover_of}
 use Rattle.build.specs.Cells.{needed_limit}
 use Rattle.build.proofs.Places.{place_limit}
 use Rattle.record.specs.Formed.{well_formed, sound}
 use Rattle.lookup.proofs.Indices.{found_index}
 use Rattle.lookup.proofs.Lookups.{lookup_unformed}
 use Rattle.recover.proofs.Recovery.{recover_unformed}
-use Rattle.many.specs.declared.Many.{Many}
+use Rattle.many.specs.Lookups.{Many, lookup_many}
 use Rattle.many.specs.Lookups as many
-use Rattle.many.specs.Lookups.{lookup_many}
 use Rattle.many.proofs.Keys.{many_same}
-use Rattle.file.specs.declared.Written.{Written}
 use Rattle.file.specs.Write as file
-use Rattle.file.specs.Write.{write_of}
+use Rattle.file.specs.Write.{Written, write_of}
 use Rattle.file.proofs.Outcomes.{written_few, write_unsound}
 use Rattle.file.specs.Read.{Reading, read_of}
-use Rattle.load.specs.declared.Loaded.{Loaded}
 use Rattle.load.specs.Load as load
+use Rattle.load.specs.Load.{Loaded}
 use Rattle.flat.specs.Flat.{variable_at, flat_of, variable_words, unit_at, all_in_range, unreadable, unit_seen}
-use Rattle.bridge.specs.Calls.{answer, built_answer, left, left_by, build_call, given_call, found_in, recovered_in, lookup_call, indexed, place_bits, many_call, filed, filed_by, write_call, read_call}
+use Rattle.bridge.specs.Calls.{answer, answered, number_in, built_answer, left, left_by, build_call, given_call, found_in, recovered_in, lookup_call, indexed, place_bits, many_call, filed, filed_by, write_call, read_call}
 
 -- ---- the builds
 
@@ -82,6 +80,11 @@ module _ (words : List ℕ) (t : Tables) (x : ℕ) where
       go true = refl
       go false = sym (recover_unformed (unreadable (get_or words 3 0)) t x refl)
 
+-- the answer of what a lookup gives
+pub answered_found : (r : Result ℕ Refusal) → (number_in r ≡ (told r).index) × (answered r ≡ answer (told r).refusal (told r).index)
+answered_found (Ok i) = (refl, refl)
+answered_found (Err e) = (refl, refl)
+
 pub index_fits : (words : List ℕ) (t : Tables) (x : ℕ) (f : Found) → f ≡ found_in words t x → f.index < 65536
 index_fits words t x f e = omega (arith, found_index (unit_seen words) t x, ap (λ (f : Found). f.index) (e ∙ sym (seen_found words t x)))
 
@@ -107,13 +110,18 @@ filed_by_lem words t target u w l a v o i =
     go true = refl
     go false = ap filed_by (write_unsound (unreadable (get_or words 3 0)) t target refl)
 
+-- the answer of what writing gives
+pub answered_written : (r : Result ℕ Refusal) → (number_in r ≡ (file.told r).length) × (answered r ≡ answer (file.told r).refusal (file.told r).length)
+answered_written (Ok n) = (refl, refl)
+answered_written (Err e) = (refl, refl)
+
 pub length_fits : (u : Record) (t : Tables) (target : List ℕ) (w : Written) (l : List ℕ) → file.after w l ≡ write_of u t target → w.length < 65536
 length_fits u t target w l e = omega (arith, written_few u t target, ap (λ (o : file.Outcome). o.written.length) e)
 
 -- ---- reading a file
 
-pub read_left : (r : Loaded) (h g aux : List ℕ) (file : List ℕ) (t : Tables) (words : List ℕ) → load.after r (lent h g aux) ≡ read_of file t → words ≡ flat_of r.unit
-    → left r.refusal words (lent h g aux) ≡ read_call file t
+pub read_left : (r : Loaded) (h g aux : List ℕ) (file : List ℕ) (t : Tables) (words : List ℕ) (a : ℕ) → load.after r (lent h g aux) ≡ read_of file t → words ≡ flat_of r.unit
+    → a ≡ r.refusal → left a words (lent h g aux) ≡ read_call file t
 unfolding read_call
-read_left r h g aux file t words e f =
-    ap (λ (w : List ℕ). left r.refusal w (lent h g aux)) f ∙ ap (λ (o : Reading). left o.refusal (flat_of o.unit) o.tables) e
+read_left r h g aux file t words a e f i =
+    ap₂ (λ (b : ℕ) (w : List ℕ). left b w (lent h g aux)) i f ∙ ap (λ (o : Reading). left o.refusal (flat_of o.unit) o.tables) e

@@ -8,7 +8,7 @@ use Rattle.vectors.specs.declared.Kind.{Kind}
 use Rattle.vectors.specs.declared.Variable.{Variable}
 use Rattle.vectors.specs.Variable.{kinds_of}
 use Rattle.vectors.specs.Bounds.{max_variables}
-use Rattle.build.specs.declared.Refusal.{Refusal}
+use Rattle.build.specs.Built.{Refusal}
 use Rattle.record.specs.Record.{mark_built}
 use Rattle.record.specs.Tables.{Tables}
 use Rattle.build.specs.Build.{Outcome, outcome, chosen_refusal, given_refusal, build_chosen, build_given, rows_share, chosen_kinds}

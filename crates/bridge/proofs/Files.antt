@@ -16,7 +16,7 @@ use Rattle.recover.specs.Recover.{recover_of}
 use Rattle.build.specs.Build.{Outcome, build_chosen, build_given}
 use Rattle.build.proofs.Holding.Holds.{chosen_holds, given_holds}
 use Rattle.unit.specs.Demand2.{Demand2}
-use Rattle.file.specs.declared.Written.{Written}
+use Rattle.file.specs.Write.{Written}
 use Rattle.file.specs.File.{longest_file, file_of}
 use Rattle.file.specs.Read.{Reading, read_of}
 use Rattle.file.specs.Facts.{RecordCarried, Roomy}

@@ -5,13 +5,12 @@ use mathlib.Core.Path.{◌≡◌, refl, sym, ap, ap₂, ◌∙◌}
 use mathlib.Core.List.{List, [], ◌∷◌, map}
 use lib.ListN.{length}
 use Rattle.lists.specs.Members.{All}
-use Rattle.lookup.specs.declared.Found.{Found}
+use Rattle.lookup.specs.Lookup.{Found}
 use Rattle.lookup.proofs.Indices.{found_number}
 use Rattle.record.specs.Holds.{index_of}
 use Rattle.record.specs.Tables.{Tables, over}
-use Rattle.many.specs.declared.Many.{Many}
+use Rattle.many.specs.Lookups.{Many, refused_at, or_else, first_refused, left_by}
 use Rattle.many.specs.Lookups as many
-use Rattle.many.specs.Lookups.{refused_at, or_else, first_refused, left_by}
 use Rattle.many.proofs.Keys.{many_by}
 use Rattle.flat.specs.Flat.{unit_seen}
 use Rattle.bridge.specs.Calls.{answer, Left, found_in, lookup_call, indexed, place_bits, many_call}

@@ -1,11 +1,11 @@
 -- The calls of the boundary, over the definitions of the unit.
-use Rattle.std.specs.Prelude.{ℕ, ◌+◌, ◌*◌, ◌%◌, ◌^◌, cond, List, map}
-use Rattle.lookup.specs.declared.Found.{Found}
-use Rattle.recover.specs.declared.Recovered.{Recovered}
+use Rattle.std.specs.Prelude.{ℕ, ◌+◌, ◌*◌, ◌%◌, ◌^◌, cond, Result, Ok, Err, List, map}
+use Rattle.refusal.specs.declared.Refusal.{Refusal}
+use Rattle.refusal.specs.Refusal.{number_of}
+use Rattle.lookup.specs.Lookup.{Found, not_found, lookup_of}
+use Rattle.recover.specs.Recover.{Recovered, not_recovered, recover_of}
 use Rattle.record.specs.Tables.{Tables}
 use Rattle.build.specs.Build.{Outcome, build_chosen, build_given}
-use Rattle.lookup.specs.Lookup.{not_found, lookup_of}
-use Rattle.recover.specs.Recover.{not_recovered, recover_of}
 use Rattle.many.specs.Lookups.{lookup_many}
 use Rattle.file.specs.Write as file
 use Rattle.file.specs.Write.{write_of}
@@ -15,6 +15,15 @@ use Rattle.flat.specs.Flat.{variable_at, flat_of, unit_at, variable_words, all_i
 -- the answer: the refusal, and above its 8 bits the place or the index
 abbrev pub answer : ℕ → ℕ → ℕ
 answer refusal number = refusal + 256 * number
+
+-- the answer of a number or of a refusal by name, and the number in it
+abbrev pub answered : Result ℕ Refusal → ℕ
+answered (Ok number) = answer 0 number
+answered (Err r) = answer (number_of r) 0
+
+abbrev pub number_in : Result ℕ Refusal → ℕ
+number_in (Ok number) = number
+number_in (Err r) = 0
 
 -- a build's answer: above these 32 bits the cells needed
 abbrev pub built_answer : ℕ → ℕ → ℕ → ℕ

@@ -3,11 +3,14 @@
 
 ghost use Rattle.std.specs.Prelude.{◌≡◌, ◌∷◌, [], ◌<◌};
 ghost use Rattle.record.specs.Tables.{lent};
+ghost use Rattle.lookup.specs.Lookup as lookup;
+ghost use Rattle.build.specs.Built.{told};
+ghost use Rattle.flat.specs.Flat.{flat_of};
 ghost use Rattle.bridge.specs.Calls as spec;
-ghost use Rattle.bridge.specs.Calls.{left, build_call, given_call, found_in, lookup_call, indexed, many_call, recovered_in, filed, write_call, read_call};
+ghost use Rattle.bridge.specs.Calls.{left, build_call, given_call, found_in, lookup_call, indexed, many_call, recovered_in, number_in, built_answer, filed, write_call, read_call};
 
 use flat::WORDS;
-use unit::Found;
+use unit::{Record, Refusal, Refused};
 use vectors::MAX_VARIABLES;
 
 // So many places an answer can tell apart.
@@ -18,15 +21,37 @@ fn answer(refusal: u8, number: usize) -> u64
     requires { number < 65536 }
     ensures { result ≡ spec.answer refusal number }
 {
-    refusal as u64 + 256 * (number as u64)
+    u64::from(refusal) + 256 * (number as u64)
 }
 
-// A build's answer in one word.
-fn built_answer(refusal: u8, place: usize, needed: usize) -> u64
-    requires { (place < 65536) × (needed < 65536) }
-    ensures { result ≡ spec.built_answer refusal place needed }
+// A number that was asked for, or the refusal of it, in one word.
+fn answered(asked: Result<usize, Refusal>) -> u64
+    requires { number_in asked < 65536 }
+    ensures { result ≡ spec.answered asked }
 {
-    answer(refusal, place) + 4294967296 * (needed as u64)
+    match asked {
+        Ok(number) => answer(0, number),
+        Err(refusal) => answer(refusal.number(), 0),
+    }
+}
+
+// The record of a build goes to words, a blank one beside a refusal. The answer is the refusal, 256 times the place and 2^32 times the cells needed.
+fn leave(built: Result<Record, Refused>, words: &mut [u64; WORDS]) -> u64
+    requires { ((told built).place < 65536) × ((told built).needed < 65536) }
+    ensures value { result ≡ built_answer (told built).refusal (told built).place (told built).needed }
+    ensures words_after { words.new ≡ flat_of (told built).unit }
+{
+    match built {
+        Ok(unit) => {
+            *words = flat::words(unit);
+            0
+        }
+        Err(refused) => {
+            *words = flat::words(record::blank());
+            let refusal = refused.refusal;
+            answer(refusal.number(), refused.place) + 0x1_0000_0000 * (refusal.needed() as u64)
+        }
+    }
 }
 
 // The build that chooses its variables, with an allowance of tries. The answer is the refusal, 256 times the place and 2^32 times the
@@ -46,9 +71,7 @@ pub fn igu_build(
         ≡ build_call n degree cells allowance vectors.now (lent h.old g.old aux.old) }
 {
     let built = unit::build_chosen(n, degree, cells, allowance, vectors, h, g, aux);
-    let unit = built.unit;
-    *words = flat::words(unit);
-    built_answer(built.refusal, built.place, built.needed)
+    leave(built, words)
 }
 
 // The build whose variables and n1 the caller states, likewise.
@@ -80,21 +103,15 @@ pub fn igu_build_given(
         g,
         aux,
     );
-    let unit = built.unit;
-    *words = flat::words(unit);
-    built_answer(built.refusal, built.place, built.needed)
+    leave(built, words)
 }
 
 // What lookup gives by a record. The words are tested and read here, and not by `flat::seen`, which the compiler would not take in.
-fn find(words: &[u64; WORDS], h: &[u16], g: &[u16], aux: &[u64], x: u64) -> Found
-    ensures { result ≡ found_in words.now (lent h.now g.now aux.now) x }
+fn find(words: &[u64; WORDS], h: &[u16], g: &[u16], aux: &[u64], x: u64) -> Result<usize, Refusal>
+    ensures { lookup.told result ≡ found_in words.now (lent h.now g.now aux.now) x }
 {
     if !flat::readable(words) {
-        return Found {
-            refusal: 14,
-            place: 0,
-            index: 0,
-        };
+        return Err(Refusal::NoUnit);
     }
     let all = &words[..];
     let variables = flat::low_variables(&all[8..32]);
@@ -105,8 +122,7 @@ fn find(words: &[u64; WORDS], h: &[u16], g: &[u16], aux: &[u64], x: u64) -> Foun
 pub fn igu_lookup(words: &[u64; WORDS], h: &[u16], g: &[u16], aux: &[u64], x: u64) -> u64
     ensures { result ≡ lookup_call words.now (lent h.now g.now aux.now) x }
 {
-    let found = find(words, h, g, aux, x);
-    answer(found.refusal, found.index)
+    answered(find(words, h, g, aux, x))
 }
 
 // The index of each key goes to indices. The answer is the refusal of the first key that is refused, and 256 times its number, for which it has 56 bits:
@@ -122,8 +138,12 @@ pub fn igu_lookup_many(
     ensures { indexed result indices.new
         ≡ many_call words.now (lent h.now g.now aux.now) keys.now indices.old }
 {
-    let found = many::lookup_many(flat::seen(words), h, g, aux, keys, indices);
-    found.refusal as u64 + 256 * (found.place as u64 % MAX_PLACES)
+    match many::lookup_many(flat::seen(words), h, g, aux, keys, indices) {
+        Ok(()) => 0,
+        Err(refused) => {
+            u64::from(refused.refusal.number()) + 256 * (refused.place as u64 % MAX_PLACES)
+        }
+    }
 }
 
 // The refusal; the registered vector with the number i goes to vector.
@@ -138,17 +158,23 @@ pub fn igu_recover(
     ensures value { result ≡ (recovered_in words.now (lent h.now g.now aux.now) i).refusal }
     ensures vector_after { vector.new ≡ (recovered_in words.now (lent h.now g.now aux.now) i).vector ∷ [] }
 {
-    let recovered = unit::recover(flat::seen(words), h, g, aux, i);
-    *vector = [recovered.vector];
-    recovered.refusal as u64
+    match unit::recover(flat::seen(words), h, g, aux, i) {
+        Ok(recovered) => {
+            *vector = [recovered];
+            0
+        }
+        Err(refusal) => {
+            *vector = [0];
+            u64::from(refusal.number())
+        }
+    }
 }
 
 // The refusal and 256 times the bytes of the file that is written.
 pub fn igu_write(words: &[u64; WORDS], h: &[u16], g: &[u16], aux: &[u64], target: &mut [u8]) -> u64
     ensures { filed result target.new ≡ write_call words.now (lent h.now g.now aux.now) target.old }
 {
-    let written = file::write(flat::seen(words), h, g, aux, target);
-    answer(written.refusal, written.length)
+    answered(file::write(flat::seen(words), h, g, aux, target))
 }
 
 // The refusal; the record and the tables are the unit's that the file holds.
@@ -162,8 +188,14 @@ pub fn igu_read(
     ensures { left result words.new (lent h.new g.new aux.new)
         ≡ read_call file.now (lent h.old g.old aux.old) }
 {
-    let loaded = load::read(file, h, g, aux);
-    let unit = loaded.unit;
-    *words = flat::words(unit);
-    loaded.refusal as u64
+    match load::read(file, h, g, aux) {
+        Ok(unit) => {
+            *words = flat::words(unit);
+            0
+        }
+        Err(refusal) => {
+            *words = flat::words(record::blank());
+            u64::from(refusal.number())
+        }
+    }
 }

@@ -14,7 +14,7 @@ use Rattle.rows.proofs.Placing.Allowed.{within_same, within_over, within_all, wi
 use Rattle.rows.proofs.Placing.Most.{most_tries_lem, most_small}
 use Rattle.record.specs.Record.{record_of}
 use Rattle.record.specs.Tables.{Tables}
-use Rattle.build.specs.declared.Refusal.{Refusal}
+use Rattle.build.specs.Built.{Refusal}
 use Rattle.build.specs.Build.{Outcome, cares_from, placing_of, outcome}
 use Rattle.build.proofs.Refusing.Ladder.{outcome_refused, outcome_passed}
 use Rattle.build.proofs.Holding.Ends.{placing_over, finish_all, finish_stuck, finish_over, Comes, early, whole, stuck, over, comes, outcome_accepted}

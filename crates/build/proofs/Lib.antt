@@ -4,3 +4,4 @@ pub mod Holding
 pub mod Places
 pub mod Cells
 pub mod Allowed
+pub mod Telling

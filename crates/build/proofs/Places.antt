@@ -18,14 +18,14 @@ use Rattle.vectors.specs.Variable.{number_of, mask_of, kinds_of, faulty}
 use Rattle.choice.specs.Choice.{apart, choose}
 use Rattle.span.specs.Span.{spans, first_dependent}
 use Rattle.rows.specs.Allowance.{end_within}
-use Rattle.rows.specs.declared.End.TheVariants.{NoFit, Over}
+use Rattle.rows.specs.End.{NoFit, Over}
 use Rattle.rows.proofs.Placing.Turns.{ended}
 use Rattle.rows.proofs.Placing.Allowed.{within_stuck}
 use Rattle.rows.proofs.Placing.Within.{over_in}
 use Rattle.rows.proofs.Placing.Wider.{stuck_low}
 use Rattle.record.specs.Tables.{Tables}
 use Rattle.record.proofs.Formed.{inside, few}
-use Rattle.build.specs.declared.Refusal.{Refusal}
+use Rattle.build.specs.Built.{Refusal}
 use Rattle.build.specs.Refusals.{accepted, refuse_if, refuse_at, ladder, list_checks, given_checks, check1, check2_chosen, check2_given, check3, check4, check5, check6, check7, check8, check9, check10, check11, check12}
 use Rattle.build.specs.Build.{rows_share, chosen_kinds, chosen_refusal, given_refusal, cares_from, placing_of, outcome, build_chosen, build_given}
 use Rattle.build.specs.Cells.{needed_limit}

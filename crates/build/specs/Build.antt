@@ -11,12 +11,11 @@ use Rattle.choice.specs.Choice.{choose, apart}
 use Rattle.rows.specs.Care.{Care, cares_by}
 use Rattle.rows.specs.Place.{Placing, place}
 use Rattle.rows.specs.Allowance.{end_within}
-use Rattle.rows.specs.declared.End.TheVariants.{All, NoFit, Over, Unfit}
+use Rattle.rows.specs.End.{All, NoFit, Over, Unfit}
 use Rattle.record.specs.declared.Record.{Record}
 use Rattle.record.specs.Record.{mark_built, blank_record, record_of}
 use Rattle.record.specs.Tables.{Tables, lent, over}
-use Rattle.build.specs.declared.Built.{Built}
-use Rattle.build.specs.declared.Refusal.{Refusal}
+use Rattle.build.specs.Built.{Built, Refusal}
 use Rattle.build.specs.Refusals.{ladder, list_checks, check2_chosen, check2_given, given_checks, check11, check12}
 
 -- SCOPE 5.1: how many of p chosen variables are row variables

@@ -7,7 +7,7 @@ use Rattle.rows.specs.Place.{Placing}
 use Rattle.rows.specs.Needed.{Keeps}
 use Rattle.rows.specs.Allowance.{places_within, tries_up_to}
 use Rattle.record.specs.Tables.{Tables}
-use Rattle.build.specs.declared.Refusal.{Refusal}
+use Rattle.build.specs.Built.{Refusal}
 use Rattle.build.specs.Build.{rows_share, Outcome, placing_of, chosen_kinds, chosen_refusal, build_chosen, given_refusal, build_given}
 
 -- the builds of a list, by the number of cells, the allowance and the tables: what refusals 1 to 12 say, the rows placed where all tries are allowed, and the outcome

@@ -1,3 +1,4 @@
+pub mod Built
 pub mod Refusals
 pub mod Build
 pub mod Cells

@@ -6,7 +6,7 @@ use Rattle.vectors.specs.Bounds.{max_inputs, max_vectors, max_cells, outside, to
 use Rattle.vectors.specs.Variable.{number_of, first_faulty}
 use Rattle.span.specs.Span.{first_dependent}
 use Rattle.choice.specs.Choice.{apart}
-use Rattle.build.specs.declared.Refusal.{Refusal}
+use Rattle.build.specs.Built.{Refusal}
 
 -- SCOPE 11.3: number 0 and place 0 where nothing is refused
 abbrev pub accepted : Refusal

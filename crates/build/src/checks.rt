@@ -2,46 +2,30 @@
 ghost use Rattle.std.specs.Prelude.{◌≡◌, map, ◌||◌, suc, ◌≤◌, ltb, length, take};
 ghost use Rattle.vectors.specs.Bounds.{max_inputs, max_vectors, max_variables};
 ghost use Rattle.vectors.specs.Masks.{number_by};
-ghost use Rattle.vectors.specs.Variable.{number_of};
-ghost use Rattle.repeats.specs.Repeats.{repeated_in};
+ghost use Rattle.vectors.specs.Variable.{number_of, kinds_of};
+ghost use Rattle.lists.specs.First.{place_number, repeated};
+ghost use Rattle.build.specs.Built.{checked, refused_as};
 ghost use Rattle.build.specs.Refusals.{first_beyond, ladder, list_checks, given_checks, refuse_if};
-ghost use Rattle.build.specs.Inner.Ready.{kinds_by};
 
-use crate::{Chart, Refusal};
-use vectors::{MAX_CELLS, MAX_INPUTS, MAX_VECTORS, MAX_WORDS};
-
-fn refuse(number: u8, place: usize) -> Refusal
-    ensures { result ≡ record { number = number; place = place } }
-{
-    Refusal { number, place }
-}
+use refusal::{Refusal, Refused};
+use vectors::{MAX_CELLS, MAX_INPUTS, MAX_VARIABLES, MAX_VECTORS, MAX_WORDS, Variable};
 
 // Whether G or AUX is too short for the cells and the vectors.
 fn too_short(k: usize, cells: usize, g: usize, aux: usize) -> bool
     ensures { result ≡ (ltb g cells || ltb aux (suc k)) }
 {
-    if g < cells {
-        return true;
-    }
-    aux <= k
+    g < cells || aux <= k
 }
 
-// The number from 1 of the first vector that has a bit beyond n; 0 for none.
-fn first_beyond(n: usize, vectors: &[u64]) -> usize
-    ensures { result ≡ first_beyond n vectors.now }
+// The place from 0 of the first vector that has a bit beyond n.
+fn first_beyond(n: usize, vectors: &[u64]) -> Option<usize>
+    ensures { place_number result ≡ first_beyond n vectors.now }
 {
-    let mut i = 0;
-    while i < vectors.len() {
-        let x = vectors[i];
-        i += 1;
-        if vectors::beyond(n, x) {
-            return i;
-        }
-    }
-    0
+    vectors.iter().position(|x| vectors::beyond(n, *x))
 }
 
 // Checks 1 to 7; two is whether check 2 refuses, and g and aux are the lengths of G and AUX.
+#[tactic(auto, using(crate::proofs::Refusing::Checks::beyond_low, crate::proofs::Refusing::Checks::repeats_few, crate::proofs::Refusing::Checks::repeats_low), unfolding(crate::specs::Refusals::ladder))]
 pub(crate) fn check_list(
     n: usize,
     two: bool,
@@ -49,34 +33,32 @@ pub(crate) fn check_list(
     vectors: &[u64],
     g: usize,
     aux: usize,
-) -> Refusal
-    ensures { result ≡ ladder (list_checks n (refuse_if 2 two) cells vectors.now g aux) }
+) -> Result<(), Refused>
+    ensures { checked result ≡ refused_as (ladder (list_checks n (refuse_if 2 two) cells vectors.now g aux)) }
 {
     let k = vectors.len();
     if vectors::outside(1, MAX_INPUTS, n) {
-        return refuse(1, 0);
+        return Err(Refusal::Inputs.at(0));
     }
     if two {
-        return refuse(2, 0);
+        return Err(Refusal::Degree.at(0));
     }
     if vectors::outside(1, MAX_VECTORS, k) {
-        return refuse(3, 0);
+        return Err(Refusal::Vectors.at(0));
     }
     if vectors::outside(1, MAX_CELLS, cells) {
-        return refuse(4, 0);
+        return Err(Refusal::Cells.at(0));
     }
     if too_short(k, cells, g, aux) {
-        return refuse(5, 0);
+        return Err(Refusal::ShortTables.at(0));
     }
-    let beyond = first_beyond(n, vectors);
-    if beyond != 0 {
-        return refuse(6, beyond);
+    if let Some(i) = first_beyond(n, vectors) {
+        return Err(Refusal::Beyond.at(i + 1));
     }
-    let equal = repeats::first_repeat(vectors);
-    if equal != 0 {
-        return refuse(7, equal);
+    if let Some(i) = repeats::first_repeat(vectors) {
+        return Err(Refusal::Repeated.at(i + 1));
     }
-    refuse(0, 0)
+    Ok(())
 }
 
 // The number of each vector, from the front of out on.
@@ -84,50 +66,43 @@ fn numbers(masks: &[u64], vectors: &[u64], out: &mut [u64])
     requires { (length masks.now ≤ max_variables) × (length vectors.now ≤ length out.old) }
     ensures { take (length vectors.now) out.new ≡ map (number_by masks.now) vectors.now }
 {
-    let mut i = 0;
-    while i < vectors.len() {
-        out[i] = vectors::number(masks, vectors[i]);
-        i += 1;
+    for (i, x) in vectors.iter().enumerate() {
+        out[i] = vectors::number(masks, *x);
     }
 }
 
-// The number from 1 of the first vector that agrees with an earlier one on every variable; 0 for none, and for more than 1,023 vectors.
+// The place from 0 of the first vector that agrees with an earlier one on every variable.
 // Not inlined: its arrays are given back before rows are placed.
 #[inline(never)]
-fn first_alike(chart: Chart, vectors: &[u64]) -> usize
-    requires { chart.p ≤ max_variables }
-    ensures { result ≡ repeated_in (map (number_of (kinds_by chart)) vectors.now) }
+fn first_alike(variables: [Variable; MAX_VARIABLES], p: usize, vectors: &[u64]) -> Option<usize>
+    requires { (p ≤ max_variables) × (length vectors.now ≤ max_vectors) }
+    ensures { place_number result ≡ repeated (map (number_of (kinds_of (take p variables))) vectors.now) }
 {
-    // A list that is too long is answered as an empty one.
-    if MAX_VECTORS < vectors.len() {
-        return first_alike(chart, &vectors[..0]);
-    }
-    let k = vectors.len();
-    let p = chart.p;
-    let variables = chart.variables;
     let masks = vectors::masks(variables, p);
     let mut out = [0u64; MAX_WORDS];
     numbers(&masks[..p], vectors, &mut out);
-    repeats::first_repeat(&out[..k])
+    repeats::first_repeat(&out[..vectors.len()])
 }
 
 // Checks 8 to 10 of given variables.
-pub(crate) fn check_given(chart: Chart, vectors: &[u64]) -> Refusal
-    requires { (chart.n ≤ max_inputs) × (chart.p ≤ max_variables) × (length vectors.now ≤ max_vectors) }
-    ensures { result ≡ ladder (given_checks chart.n (kinds_by chart) vectors.now) }
+#[tactic(auto, using(crate::proofs::Refusing::Checks::faulty_low, crate::proofs::Refusing::Checks::dependent_low, crate::proofs::Refusing::Checks::alike_low, crate::proofs::Refusing::Checks::dependent_same), unfolding(crate::specs::Refusals::ladder))]
+pub(crate) fn check_given(
+    n: usize,
+    variables: [Variable; MAX_VARIABLES],
+    p: usize,
+    vectors: &[u64],
+) -> Result<(), Refused>
+    requires { (n ≤ max_inputs) × (p ≤ max_variables) × (length vectors.now ≤ max_vectors) }
+    ensures { checked result ≡ refused_as (ladder (given_checks n (kinds_of (take p variables)) vectors.now)) }
 {
-    let variables = chart.variables;
-    let faulty = vectors::first_faulty(chart.n as u8, variables, chart.p);
-    if faulty != 0 {
-        return refuse(8, faulty);
+    if let Some(i) = vectors::first_faulty(n as u8, variables, p) {
+        return Err(Refusal::Faulty.at(i + 1));
     }
-    let dependent = span::first_dependent(chart.n, variables, chart.p);
-    if dependent != 0 {
-        return refuse(9, dependent);
+    if let Some(i) = span::first_dependent(n, variables, p) {
+        return Err(Refusal::Dependent.at(i + 1));
     }
-    let alike = first_alike(chart, vectors);
-    if alike != 0 {
-        return refuse(10, alike);
+    if let Some(i) = first_alike(variables, p, vectors) {
+        return Err(Refusal::Alike.at(i + 1));
     }
-    refuse(0, 0)
+    Ok(())
 }

@@ -1,40 +1,33 @@
 // The two builds: the checks in their order, the variables chosen or given, and then the tables and the record.
 #![tactic(auto)]
 
-ghost use Rattle.std.specs.Prelude.{◌≡◌};
+ghost use Rattle.std.specs.Prelude.{◌≡◌, ◌≤◌, take};
+ghost use Rattle.vectors.specs.Bounds.{max_variables};
+ghost use Rattle.vectors.specs.Variable.{kinds_of};
 ghost use Rattle.record.specs.Tables.{lent};
+ghost use Rattle.build.specs.Built.{told};
+ghost use Rattle.build.specs.Inner.Ready.{Listed, Split, listed_prop, split_prop};
 ghost use Rattle.build.specs.Build.{after, build_chosen, build_given};
 
 use record::Record;
+use refusal::{Refusal, Refused};
 use vectors::{MAX_VARIABLES, Variable};
 
 mod checks;
 mod finish;
 
-// A refusal with its place; 0 and 0 for none.
+// A list past checks 1 to 11, of vectors of n bits, and how they go into rows and columns: by the first p variables, n1 of them for rows.
+// An array with p beside it, as build_given is lent them and the record has them: there is no heap.
 #[derive(Clone, Copy)]
-pub struct Refusal {
-    pub number: u8,
-    pub place: usize,
-}
-
-// The refusal's number and its place, 0 and 0 where the call is accepted; beside 13 the least number of cells with which its row would have
-// a place, else 0; the record, blank beside a refusal.
-#[derive(Clone, Copy)]
-pub struct Built {
-    pub refusal: u8,
-    pub place: usize,
-    pub needed: usize,
-    pub unit: Record,
-}
-
-// How vectors of n bits go into rows and columns: by the first p variables, n1 of them for rows.
-#[derive(Clone, Copy)]
-pub(crate) struct Chart {
+pub(crate) struct Chart<'a> {
     pub n: usize,
     pub p: usize,
     pub n1: usize,
     pub variables: [Variable; MAX_VARIABLES],
+    pub vectors: &'a [u64],
+    ghost few: { p ≤ max_variables },
+    ghost listed: { Listed n vectors.now } by { listed_prop n vectors.now },
+    ghost split: { Split n n1 (kinds_of (take p variables)) } by { split_prop n n1 (kinds_of (take p variables)) },
 }
 
 // The build that chooses its variables. No more displacements are tried than the allowance says.
@@ -47,19 +40,15 @@ pub fn build_chosen(
     h: &mut [u16],
     g: &mut [u16],
     aux: &mut [u64],
-) -> Built
-    ensures { after result h.new g.new aux.new
+) -> Result<Record, Refused>
+    ensures { after (told result) h.new g.new aux.new
         ≡ build_chosen n degree cells allowance vectors.now (lent h.old g.old aux.old) }
 {
     let two = vectors::outside(1, 2, degree);
-    let list = checks::check_list(n, two, cells, vectors, g.len(), aux.len());
-    if list.number != 0 {
-        return finish::refused(list.number, list.place, 0);
-    }
-    let chosen = choice::choose(vectors, n as u8, degree);
-    if !chosen.apart {
-        return finish::refused(11, 0, 0);
-    }
+    checks::check_list(n, two, cells, vectors, g.len(), aux.len())?;
+    let Ok(chosen) = choice::choose(vectors, n as u8, degree) else {
+        return Err(Refusal::NotApart.at(0));
+    };
     let p = chosen.p;
     let n1 = p - p / 2;
     let variables = chosen.variables;
@@ -68,8 +57,9 @@ pub fn build_chosen(
         p,
         n1,
         variables,
+        vectors,
     };
-    finish::complete(chart, cells, allowance, vectors, h, g, aux)
+    finish::complete(chart, cells, allowance, h, g, aux)
 }
 
 // The build whose variables and n1 the caller states, with an allowance likewise.
@@ -84,24 +74,19 @@ pub fn build_given(
     h: &mut [u16],
     g: &mut [u16],
     aux: &mut [u64],
-) -> Built
-    ensures { after result h.new g.new aux.new
+) -> Result<Record, Refused>
+    ensures { after (told result) h.new g.new aux.new
         ≡ build_given n variables p n1 cells allowance vectors.now (lent h.old g.old aux.old) }
 {
     let two = vectors::too_many(p, n1);
-    let list = checks::check_list(n, two, cells, vectors, g.len(), aux.len());
-    if list.number != 0 {
-        return finish::refused(list.number, list.place, 0);
-    }
+    checks::check_list(n, two, cells, vectors, g.len(), aux.len())?;
+    checks::check_given(n, variables, p, vectors)?;
     let chart = Chart {
         n,
         p,
         n1,
         variables,
+        vectors,
     };
-    let given = checks::check_given(chart, vectors);
-    if given.number != 0 {
-        return finish::refused(given.number, given.place, 0);
-    }
-    finish::complete(chart, cells, allowance, vectors, h, g, aux)
+    finish::complete(chart, cells, allowance, h, g, aux)
 }

@@ -8,19 +8,15 @@ const PLENTY: u64 = 1_000_000;
 
 // 0, 1, 2, ..
 fn count(words: &mut [u64]) {
-    let mut i = 0;
-    while i < words.len() {
-        words[i] = i as u64;
-        i += 1;
+    for (i, word) in words.iter_mut().enumerate() {
+        *word = i as u64;
     }
 }
 
 // 1, 2, 4, ..
 fn powers(words: &mut [u64]) {
-    let mut i = 0;
-    while i < words.len() {
-        words[i] = 1u64 << (i % 64);
-        i += 1;
+    for (i, word) in words.iter_mut().enumerate() {
+        *word = 1u64 << (i % 64);
     }
 }
 
@@ -39,9 +35,9 @@ fn in_part(
     g: &mut [u16],
     aux: &mut [u64],
 ) -> io::Result<()> {
-    let rows = lists::least(rows, h.len());
-    let room = lists::least(room, g.len());
-    let words = lists::least(words, aux.len());
+    let rows = rows.min(h.len());
+    let room = room.min(g.len());
+    let words = words.min(aux.len());
     let b = unit::build_chosen(
         n,
         degree,

@@ -1,5 +1,5 @@
 -- What is written, from what is read, built and counted. Assumes nothing.
-use Prim.Native.Nat.{ℕ, ◌-◌, ◌≤◌, ◌<◌}
+use Prim.Native.Nat.{ℕ, ◌+◌, ◌≤◌, ◌<◌}
 use native.Mathlib.Omega.{arith}
 use mathlib.Core.Path.{◌≡◌, sym, ap, ◌∙◌}
 use mathlib.Core.Bool.{true, false}
@@ -9,12 +9,12 @@ use borrow.Author.Tests.{eq-eqb, ne_eqb}
 use lib.ListN.{length, get_or, drop}
 use Rattle.lists.proofs.Tests.{le_or_lt}
 use Rattle.vectors.specs.Bounds.{max_cells}
-use Rattle.build.specs.declared.Built.{Built}
+use Rattle.build.specs.Built.{Built}
 use Rattle.build.specs.Build.{Outcome, after, build_chosen}
 use Rattle.build.specs.Cells.{used}
 use Rattle.build.proofs.Cells.Placings.{used_past, used_least}
 use Rattle.rows.proofs.Fits.Needed.{past_free}
-use Rattle.input.specs.declared.Input.{Input}
+use Rattle.input.specs.Input.{Input}
 use Rattle.input.specs.Input.{max_listed, numbers_in, input_from, input_of}
 use Rattle.print.specs.Print.{fitted, refused_text}
 use Rattle.print.specs.Sentence.{sentence_of}
@@ -24,28 +24,18 @@ use Rattle.answer.specs.Answer.{input_text}
 use Rattle.answer.proofs.Makes.{read_is, from_numbers}
 use Rattle.cells.specs.Cells.{cells_form, fewest, wide_build, cells_by, cells_of}
 
--- ---- the cells from n on are free
-
-abbrev pub Free : List ℕ → ℕ → Type 0
-Free g n = (c : ℕ) → n ≤ c → get_or g c 0 ≡ 0
+-- ---- the last cell that is taken, and none
 
 module _ (g : List ℕ) where
-  pub free_start : Free g (length g)
-  free_start c l = past_free g c l
+  pub used_last : (last : ℕ) → last < length g → (get_or g last 0 ≡ 0 → ⊥) → ((c : ℕ) → last + 1 ≤ c → c < length g → get_or g c 0 ≡ 0) → last + 1 ≡ used g
+  used_last last h t f =
+      let free : (c : ℕ) → last + 1 ≤ c → get_or g c 0 ≡ 0 = λ c l. ⊎_elim (λ k. past_free g c k) (λ k. f c l k) (le_or_lt (length g) c) in
+      let l = used_least g (last + 1) free in
+      ⊎_elim (λ k. omega arith) (λ k. absurd (t (used_past g last (omega arith)))) (le_or_lt (last + 1) (used g))
 
-  -- the cell before n is free
-  pub free_more : (n : ℕ) → 0 < n → Free g n → get_or g (n - 1) 0 ≡ 0 → Free g (n - 1)
-  free_more n p f z c l = ⊎_elim (λ k. f c k) (λ k. let e : c ≡ n - 1 = omega arith in rw e z) (le_or_lt n c)
-
-  -- it is taken: n is one past the last
-  pub free_last : (n : ℕ) → 0 < n → Free g n → (get_or g (n - 1) 0 ≡ 0 → ⊥) → n ≡ used g
-  free_last n p f z =
-      let l = used_least g n f in
-      ⊎_elim (λ k. omega arith) (λ k. absurd (z (used_past g (n - 1) (omega arith)))) (le_or_lt n (used g))
-
-  -- none is taken
-  pub free_all : (n : ℕ) → n ≤ 0 → Free g n → 0 ≡ used g
-  free_all n l f = let e = used_least g n f in omega arith
+  pub used_none : ((c : ℕ) → c < length g → get_or g c 0 ≡ 0) → 0 ≡ used g
+  used_none f =
+      let e = used_least g 0 (λ c _. ⊎_elim (λ k. past_free g c k) (λ k. f c k) (le_or_lt (length g) c)) in omega arith
 
 -- ---- what is written
 

@@ -1,7 +1,7 @@
 -- The least L of a list: what is written for a text (SCOPE 14.19, 16.8).
 use Rattle.std.specs.Prelude.{ℕ, Bool, true, false, List, [], ◌∷◌, eqb, get_or, drop}
 use Rattle.vectors.specs.Bounds.{max_cells}
-use Rattle.build.specs.declared.Built.{Built}
+use Rattle.build.specs.Built.{Built}
 use Rattle.build.specs.Build.{Outcome, build_chosen}
 use Rattle.build.specs.Cells.{used}
 use Rattle.input.specs.Input.{max_listed, good_text, numbers_in}

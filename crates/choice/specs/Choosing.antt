@@ -1,12 +1,23 @@
 -- The variables chosen, in their places.
-use Rattle.std.specs.Prelude.{ℕ, ◌-◌, false, cond, ◌||◌, List, [], ◌++◌, map, ltb, length, replicate}
+use Rattle.std.specs.Prelude.{ℕ, ◌-◌, Bool, true, false, Result, Ok, Err, cond, ◌||◌, List, [], ◌++◌, map, ltb, length, replicate}
 use Rattle.vectors.specs.declared.Kind.{Kind}
 use Rattle.vectors.specs.declared.Part.TheVariants.{Row}
 use Rattle.vectors.specs.declared.Variable.{Variable}
 use Rattle.vectors.specs.Bounds.{max_inputs, max_vectors, max_variables, outside}
 use Rattle.vectors.specs.Variable.{blank_variable}
 use Rattle.choice.specs.Choice.{choose, apart}
-use Rattle.choice.specs.declared.Chosen.{Chosen}
+use Rattle.choice.specs.declared.Chosen.{Chosen as Taken}
+
+-- the variables in their places, how many there are, and whether no two vectors agree on all of them
+pub record Chosen : Type 0 where
+  pub variables : List Variable
+  pub p : ℕ
+  pub apart : Bool
+
+-- .. as an answer or an error
+abbrev pub told : Result Taken Taken → Chosen
+told (Ok t) = record { variables = t.variables; p = t.p; apart = true }
+told (Err t) = record { variables = t.variables; p = t.p; apart = false }
 
 -- a variable taken is marked row
 abbrev pub row_variable : Kind → Variable

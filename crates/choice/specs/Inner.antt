@@ -6,5 +6,6 @@ pub mod Gain
 pub mod Laid
 pub mod Judged
 pub mod Search
+pub mod Sheets
 pub mod Ties
 pub mod Best

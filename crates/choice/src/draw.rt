@@ -8,11 +8,9 @@ pub(crate) fn draw(items: &mut [u64], blocks: usize)
     requires { (length items.old ≡ 64 * max_blocks) × (blocks ≤ max_blocks) }
     ensures { Drawn items.old items.new blocks }
 {
-    let mut w = 0;
-    while w < blocks {
+    for w in 0..blocks {
         let from = 64 * w;
         let to = from + 64;
         transpose::transpose(&mut items[from..to]);
-        w += 1;
     }
 }

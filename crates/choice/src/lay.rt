@@ -13,9 +13,10 @@ ghost use Rattle.std.proofs.lemmas.List.Edits.{sets};
 ghost use Rattle.lists.specs.Cut.{cut};
 ghost use Rattle.choice.specs.Inner.Layout.{pairs_of, whole_items, max_blocks};
 ghost use Rattle.choice.specs.Inner.Gain.{most_of, small_most};
-ghost use Rattle.choice.specs.Inner.Laid.{Grouped, WholeLaid, PairsLaid, LaidOut};
+ghost use Rattle.choice.specs.Inner.Laid.{WholeLaid, PairsLaid, LaidOut};
 
 use crate::judge;
+use crate::words::Words;
 
 // The members of a group that is laid by its pairs, at most; and the blocks that the items of all groups take, at most.
 const PAIRED_MOST: u16 = 11;
@@ -34,11 +35,7 @@ fn zero(to: &mut [u64], at: usize, until: usize)
     requires { (at ≤ until) × (until ≤ length to.old) }
     ensures { to.new ≡ sets to.old at (replicate (until - at) 0) }
 {
-    let mut i = at;
-    while i < until {
-        to[i] = 0;
-        i += 1;
-    }
+    to[at..until].fill(0);
 }
 
 // Each of the words XOR x, from place at on.
@@ -46,10 +43,8 @@ fn xored(x: u64, words: &[u64], out: &mut [u64], at: usize)
     requires { at + length words.now ≤ length out.old }
     ensures { out.new ≡ sets out.old at (map (bit_xor x) words.now) }
 {
-    let mut i = 0;
-    while i < words.len() {
-        out[at + i] = x ^ words[i];
-        i += 1;
+    for (i, word) in words.iter().enumerate() {
+        out[at + i] = x ^ *word;
     }
 }
 
@@ -59,37 +54,31 @@ fn pairs(group: &[u64], out: &mut [u64], at: usize) -> usize
     ensures { (out.new ≡ sets out.old at (pairs_of group.now)) × (result ≡ at + length (pairs_of group.now)) }
 {
     let mut w = at;
-    let mut i = 0;
-    while i < group.len() {
-        let x = group[i];
-        i += 1;
-        xored(x, &group[i..], out, w);
-        w += group.len() - i;
+    for (i, x) in group.iter().enumerate() {
+        let others = &group[i + 1..];
+        xored(*x, others, out, w);
+        w += others.len();
     }
     w
 }
 
 // The large groups, each from a new block on, with zeros up to the end of its last; how many blocks they take.
-fn lay_whole(words: &[u64], sizes: &[u16], items: &mut [u64], ends: &mut [u16]) -> usize
-    requires grouped { Grouped sizes.now words.now }
-    requires len { (length items.old ≡ 64 * max_blocks) × (ends.old ≡ replicate max_blocks 0) }
-    ensures { WholeLaid (cut sizes.now words.now) items.new ends.new result }
+fn lay_whole(groups: &Words, items: &mut [u64], ends: &mut [u16]) -> usize
+    requires { (length items.old ≡ 64 * max_blocks) × (ends.old ≡ replicate max_blocks 0) }
+    ensures { WholeLaid (cut groups.now.sizes.now groups.now.words.now) items.new ends.new result }
 {
     let mut whole = 0;
     let mut from = 0;
-    let mut g = 0;
-    while g < sizes.len() {
-        let s = sizes[g];
-        let size = s as usize;
+    for s in groups.sizes {
+        let size = *s as usize;
         let start = from;
         from += size;
-        g += 1;
-        if s > PAIRED_MOST {
+        if *s > PAIRED_MOST {
             let at = 64 * whole;
-            xored(0, &words[start..from], items, at);
+            xored(0, &groups.words[start..from], items, at);
             whole += (size + 63) / 64;
             zero(items, at + size, 64 * whole);
-            ends[whole - 1] = s;
+            ends[whole - 1] = *s;
         }
     }
     whole
@@ -97,31 +86,22 @@ fn lay_whole(words: &[u64], sizes: &[u16], items: &mut [u64], ends: &mut [u16]) 
 
 // The pairs of the small groups, from place at on; the place after them. Small is what these groups have at most; a block gets what those of
 // them have that are not wholly before it.
-fn lay_pairs(
-    words: &[u64],
-    sizes: &[u16],
-    items: &mut [u64],
-    rests: &mut [u64],
-    at: usize,
-    small: u64,
-) -> usize
-    requires grouped { Grouped sizes.now words.now }
-    requires len { (length items.old ≡ 64 * max_blocks) × (take at items.old ≡ whole_items (cut sizes.now words.now)) × (at ≡ length (whole_items (cut sizes.now words.now))) }
-    requires rests_len { (length rests.old ≡ max_blocks) × (small ≡ small_most (cut sizes.now words.now)) }
-    ensures { PairsLaid (cut sizes.now words.now) items.new rests.new result }
+fn lay_pairs(groups: &Words, items: &mut [u64], rests: &mut [u64], at: usize, small: u64) -> usize
+    requires len { let gs = cut groups.now.sizes.now groups.now.words.now in
+        (length items.old ≡ 64 * max_blocks) × (take at items.old ≡ whole_items gs) × (at ≡ length (whole_items gs)) }
+    requires rests_len { (length rests.old ≡ max_blocks) × (small ≡ small_most (cut groups.now.sizes.now groups.now.words.now)) }
+    ensures { PairsLaid (cut groups.now.sizes.now groups.now.words.now) items.new rests.new result }
 {
     let mut left = small;
     let mut b = at / 64;
     let mut w = at;
     let mut from = 0;
-    let mut g = 0;
-    while g < sizes.len() {
-        let s = sizes[g];
+    for size in groups.sizes {
+        let s = *size;
         let start = from;
         from += s as usize;
-        g += 1;
         if s <= PAIRED_MOST {
-            w = pairs(&words[start..from], items, w);
+            w = pairs(&groups.words[start..from], items, w);
             let rest = left;
             left -= (s * s / 4) as u64;
             // A group has at most 55 pairs, so it reaches at most one new block.
@@ -137,20 +117,19 @@ fn lay_pairs(
 // The items of the groups: the large groups first, each from a new block on, then the pairs of the small ones. Most is what the groups have
 // at most.
 pub(crate) fn lay(
-    words: &[u64],
-    sizes: &[u16],
+    groups: &Words,
     most: u64,
     items: &mut [u64],
     ends: &mut [u16],
     rests: &mut [u64],
 ) -> Laid
-    requires grouped { Grouped sizes.now words.now × (most ≡ most_of sizes.now) }
+    requires most { most ≡ most_of groups.now.sizes.now }
     requires len { (length items.old ≡ 64 * max_blocks) × (ends.old ≡ replicate max_blocks 0) × (length rests.old ≡ max_blocks) }
-    ensures { LaidOut (cut sizes.now words.now) items.new ends.new rests.new result }
+    ensures { LaidOut (cut groups.now.sizes.now groups.now.words.now) items.new ends.new rests.new result }
 {
-    let whole = lay_whole(words, sizes, items, ends);
+    let whole = lay_whole(groups, items, ends);
     let small = most - judge::most(&ends[..whole]);
-    let n = lay_pairs(words, sizes, items, rests, 64 * whole, small);
+    let n = lay_pairs(groups, items, rests, 64 * whole, small);
     zero(items, n, 64 * ((n + 63) / 64));
     Laid { whole, items: n }
 }

@@ -6,10 +6,11 @@
 ghost use Rattle.std.specs.Prelude.{◌≡◌, map, ◌≤◌, ◌<◌, length, get_or, take};
 ghost use Rattle.lists.specs.Members.{All};
 ghost use Rattle.vectors.specs.Bounds.{max_inputs, max_vectors};
-ghost use Rattle.choice.specs.Choosing.{chosen_by};
+ghost use Rattle.choice.specs.Choosing.{told, chosen_by};
 ghost use Rattle.choice.specs.Inner.Ties.{later_of};
 
 use crate::lay::MAX_BLOCKS;
+use crate::words::Words;
 use crate::{Chosen, best, groups};
 use vectors::{Kind, MAX_VARIABLES, MAX_WORDS, Part, Variable};
 
@@ -18,10 +19,8 @@ fn gather(vectors: &[u64], order: &[u16], words: &mut [u64])
     requires { All (λ i. i < length vectors.now) order.now × (length order.now ≤ length words.old) }
     ensures { take (length order.now) words.new ≡ map (λ i. get_or vectors.now i 0) order.now }
 {
-    let mut i = 0;
-    while i < order.len() {
-        words[i] = vectors[order[i] as usize];
-        i += 1;
+    for (i, m) in order.iter().enumerate() {
+        words[i] = vectors[*m as usize];
     }
 }
 
@@ -36,9 +35,9 @@ fn later(kind: Kind) -> u64
 }
 
 // The variables by the rule. The items are large, so they are stored once and lent to each step.
-pub(crate) fn choose(vectors: &[u64], n: u8, degree: usize) -> Chosen
+pub(crate) fn choose(vectors: &[u64], n: u8, degree: usize) -> Result<Chosen, Chosen>
     requires { (0 < n) × (n ≤ max_inputs) × (length vectors.now ≤ max_vectors) }
-    ensures { result ≡ chosen_by vectors.now n degree }
+    ensures { told result ≡ chosen_by vectors.now n degree }
 {
     let mut words = [0u64; MAX_WORDS];
     // What the items start with does not matter; ones are stored without a call of memset.
@@ -46,32 +45,31 @@ pub(crate) fn choose(vectors: &[u64], n: u8, degree: usize) -> Chosen
     let mut variables = vectors::blank_variables();
     let mut groups = groups::all(vectors.len());
     let mut tied: u64 = 0;
-    let mut p: usize = 0;
-    while p < MAX_VARIABLES {
+    for p in 0..MAX_VARIABLES {
         if groups.count == 0 {
-            return Chosen {
-                variables,
-                p,
-                apart: true,
-            };
+            return Ok(Chosen { variables, p });
         }
+        // Copies: where the step reads the groups' own arrays, the search is slower.
         let order = groups.order;
         let sizes = groups.sizes;
         let m = groups.members;
         let q = groups.count;
         gather(vectors, &order[..m], &mut words);
-        let kind = best::best(&words[..m], &sizes[..q], n, tied, degree, &mut items);
+        let members = Words {
+            words: &words[..m],
+            sizes: &sizes[..q],
+        };
+        let kind = best::best(&members, n, tied, degree, &mut items);
         groups = groups::refined(vectors, vectors::mask(kind), groups);
         tied |= later(kind);
         variables[p] = Variable {
             kind,
             part: Part::Row,
         };
-        p += 1;
     }
-    Chosen {
+    let all = Chosen {
         variables,
-        p,
-        apart: groups.count == 0,
-    }
+        p: MAX_VARIABLES,
+    };
+    if groups.count == 0 { Ok(all) } else { Err(all) }
 }

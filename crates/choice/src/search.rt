@@ -7,13 +7,14 @@ ghost use Rattle.std.specs.Prelude.{◌≡◌, ◌+◌, ◌≤◌, ◌<◌, eqb,
 ghost use Rattle.vectors.specs.Bits.{input};
 ghost use Rattle.vectors.specs.Bounds.{max_inputs};
 ghost use Rattle.choice.specs.Choice.{candidates, best_of};
-ghost use Rattle.choice.specs.Inner.Judged.{Sheet, Sheets, gain_at, left_by};
-ghost use Rattle.choice.specs.Inner.Search.{rank, better_of, Above, Beaten, LineIs, lines_of};
+ghost use Rattle.choice.specs.Inner.Judged.{left_by};
+ghost use Rattle.choice.specs.Inner.Search.{rank, better_of, Above, LineIs, lines_of};
+ghost use Rattle.choice.specs.Inner.Sheets.{gain_of};
 
-use crate::judge;
+use crate::sheet::Sheet;
 use vectors::Kind;
 
-// Two inputs, and the pairs of members that their XOR tells apart.
+// Two inputs, and the pairs of members that their XOR tells apart. The first is 0, not an Option, for none: so line 0 is one like the others.
 #[derive(Clone, Copy)]
 pub(crate) struct Best {
     i: usize,
@@ -26,30 +27,18 @@ fn is_tied(tied: u64, i: usize) -> bool
     requires { i ≤ max_inputs }
     ensures { result ≡ eqb (input tied i) 1 }
 {
-    if i == 0 {
-        return false;
-    }
-    (tied >> (i - 1)) % 2 == 1
+    i != 0 && (tied >> (i - 1)) % 2 == 1
 }
 
 // The better of the best so far and one more candidate, of inputs i and j; it is not judged where j is tied.
-fn better(
-    columns: &[u64],
-    ends: &[u16],
-    rests: &[u64],
-    most: u64,
-    tied: u64,
-    i: usize,
-    j: usize,
-    best: Best,
-) -> Best
-    requires { Sheet columns.now ends.now rests.now most i j × (input tied j ≡ 1 → gain_at columns.now ends.now (length rests.now) i j ≤ best.gain) }
-    ensures { result ≡ better_of (gain_at columns.now ends.now (length rests.now)) best i j }
+fn better(sheet: &Sheet, i: usize, j: usize, best: Best) -> Best
+    requires { (i < j) × (j ≤ sheet.now.n) × (input sheet.now.tied j ≡ 1 → gain_of sheet.now i j ≤ best.gain) }
+    ensures { result ≡ better_of (gain_of sheet.now) best i j }
 {
-    if is_tied(tied, j) {
+    if is_tied(sheet.tied, j) {
         return best;
     }
-    let gain = judge::gain(columns, ends, rests, most, i, j, best.gain);
+    let gain = sheet.gain(i, j, best.gain);
     if best.gain < gain {
         Best { i, j, gain }
     } else {
@@ -58,31 +47,18 @@ fn better(
 }
 
 // Input i with each later one. None is judged where the best so far tells as much apart as any can, nor where i is tied.
-fn best_line(
-    columns: &[u64],
-    ends: &[u16],
-    rests: &[u64],
-    most: u64,
-    n: usize,
-    tied: u64,
-    i: usize,
-    best: Best,
-) -> Best
-    requires n_le_max_inputs { (n ≤ max_inputs) × (i ≤ n) × Sheets columns.now ends.now rests.now most n }
-    requires beaten { Beaten tied (gain_at columns.now ends.now (length rests.now)) n × Above (gain_at columns.now ends.now (length rests.now)) n best (rank i (i + 1)) }
-    ensures { LineIs (gain_at columns.now ends.now (length rests.now)) n i best result }
+fn best_line(sheet: &Sheet, i: usize, best: Best) -> Best
+    requires line { i ≤ sheet.now.n }
+    requires high { Above (gain_of sheet.now) sheet.now.n best (rank i (i + 1)) }
+    ensures { LineIs (gain_of sheet.now) sheet.now.n i best result }
 {
-    if most <= best.gain {
-        return best;
-    }
-    if is_tied(tied, i) {
+    if sheet.most <= best.gain || is_tied(sheet.tied, i) {
         return best;
     }
     let mut b = best;
-    let mut j = i + 1;
-    while j <= n {
-        b = better(columns, ends, rests, most, tied, i, j, b);
-        j += 1;
+    // Not `i + 1..=n`: with its test after the turn the search is slower.
+    for j in i + 1..sheet.n + 1 {
+        b = better(sheet, i, j, b);
     }
     b
 }
@@ -91,37 +67,22 @@ fn best_line(
 fn lines_of(n: usize, degree: usize) -> usize
     ensures { result ≡ lines_of n degree }
 {
-    if degree == 2 {
-        return n;
-    }
-    1
+    if degree == 2 { n } else { 1 }
 }
 
 // The first of the candidates that leaves the least.
-pub(crate) fn best_of(
-    columns: &[u64],
-    ends: &[u16],
-    rests: &[u64],
-    most: u64,
-    n: u8,
-    tied: u64,
-    degree: usize,
-) -> Kind
-    requires n_nonzero { (0 < n) × (n ≤ max_inputs) × Sheets columns.now ends.now rests.now most n }
-    requires beaten { Beaten tied (gain_at columns.now ends.now (length rests.now)) n }
-    ensures { result ≡ best_of (left_by columns.now ends.now (length rests.now)) (candidates n degree) }
+pub(crate) fn best_of(sheet: &Sheet, degree: usize) -> Kind
+    requires { 0 < sheet.now.n }
+    ensures { result ≡ best_of (left_by sheet.now.columns.now sheet.now.ends.now (length sheet.now.rests.now)) (candidates sheet.now.n degree) }
 {
-    let inputs = n as usize;
-    let lines = lines_of(inputs, degree);
+    let lines = lines_of(sheet.n, degree);
     let mut b = Best {
         i: 0,
         j: 1,
         gain: 0,
     };
-    let mut i = 0;
-    while i < lines {
-        b = best_line(columns, ends, rests, most, inputs, tied, i, b);
-        i += 1;
+    for i in 0..lines {
+        b = best_line(sheet, i, b);
     }
     if b.i == 0 {
         Kind::One(b.j as u8)

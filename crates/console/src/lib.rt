@@ -55,109 +55,80 @@ pub fn answer<W: Write>(to: &mut W, given: &[u8], text: &[u8]) -> io::Result<()>
 
 // ---- what is read
 
-// How many bytes were read, and whether nothing failed.
-#[derive(Clone, Copy)]
-struct Reading {
-    count: usize,
-    good: bool,
-}
-
-// One read behind the first `from` bytes; where it fails the count stays.
-fn read_more<R: Read>(input: &mut R, buf: &mut [u8], from: usize) -> Reading
+// One read behind the first `from` bytes: how many there are then.
+fn read_more<R: Read>(input: &mut R, buf: &mut [u8], from: usize) -> io::Result<usize>
     requires { from ≤ length buf.old }
-    ensures bounds { (from ≤ result.count) × (result.count ≤ length buf.new) × (length buf.new ≡ length buf.old) }
+    ensures same_length { length buf.new ≡ length buf.old }
+    ensures bounds { IfOk result (λ n. (from ≤ n) × (n ≤ length buf.new)) }
     ensures front { take from buf.new ≡ take from buf.old }
-    ensures bytes { Consumes (R.remaining input.old) (R.remaining input.new) (take (result.count - from) (drop from buf.new)) }
-    ensures end { result.good ≡ true → result.count ≡ from → from < length buf.new → IsAtEnd (R.remaining input.new) }
+    ensures bytes { IfOk result (λ n. Consumes (R.remaining input.old) (R.remaining input.new) (take (n - from) (drop from buf.new))) }
+    ensures end { IfOk result (λ n. n ≡ from → from < length buf.new → IsAtEnd (R.remaining input.new)) }
 {
-    match input.read(&mut buf[from..]) {
-        Ok(more) => Reading {
-            count: from + more,
-            good: true,
-        },
-        Err(_) => Reading {
-            count: from,
-            good: false,
-        },
-    }
+    let more = input.read(&mut buf[from..])?;
+    Ok(from + more)
 }
 
-// Reads until `buf` is full, the input ends, which a read of no bytes shows, or a read fails.
-fn read_all<R: Read>(input: &mut R, buf: &mut [u8]) -> Reading
-    ensures prefix_len { IsPrefixLen result.count buf.new }
+// Reads until `buf` is full, or the input ends, which a read of no bytes shows.
+fn read_all<R: Read>(input: &mut R, buf: &mut [u8]) -> io::Result<usize>
     ensures same_length { length buf.new ≡ length buf.old }
-    ensures bytes { Consumes (R.remaining input.old) (R.remaining input.new) (take result.count buf.new) }
-    ensures end { result.good ≡ true → result.count < length buf.new → IsAtEnd (R.remaining input.new) }
+    ensures prefix_len { IfOk result (λ n. IsPrefixLen n buf.new) }
+    ensures bytes { IfOk result (λ n. Consumes (R.remaining input.old) (R.remaining input.new) (take n buf.new)) }
+    ensures end { IfOk result (λ n. n < length buf.new → IsAtEnd (R.remaining input.new)) }
 {
     let mut done = 0;
+    // A while: each read adds as many bytes as the input gave.
     while done < buf.len() {
-        let next = read_more(input, buf, done);
-        if next.count == done {
-            return next;
+        let next = read_more(input, buf, done)?;
+        if next == done {
+            return Ok(next);
         }
-        done = next.count;
+        done = next;
     }
-    Reading {
-        count: done,
-        good: true,
-    }
+    Ok(done)
 }
 
-// Word i of the call as a line behind the first `from` bytes. Where there is none the count stays; where it is too long the count stays
-// and the reading is not good.
-fn read_word(rt: &impl Env, i: usize, buf: &mut [u8], from: usize) -> Reading
+// Word i of the call as a line behind the first `from` bytes: how many there are then, none where the call has no such word.
+fn read_word(
+    rt: &impl Env,
+    i: usize,
+    buf: &mut [u8],
+    from: usize,
+) -> Result<Option<usize>, FillError>
     requires { from ≤ length buf.old }
-    ensures { (from ≤ result.count) × (result.count ≤ length buf.new) × (length buf.new ≡ length buf.old) }
+    ensures same_length { length buf.new ≡ length buf.old }
+    ensures bound { IfOk result (λ end. IfSome end (λ n. n ≤ length buf.new)) }
 {
     let more = match rt.arg(i, &mut buf[from..]) {
         Ok(more) => more,
-        Err(FillError::NotPresent) => {
-            return Reading {
-                count: from,
-                good: true,
-            };
-        }
-        Err(FillError::TooLong) => {
-            return Reading {
-                count: from,
-                good: false,
-            };
-        }
+        Err(FillError::NotPresent) => return Ok(None),
+        Err(FillError::TooLong) => return Err(FillError::TooLong),
     };
     let end = from + more;
     if buf.len() <= end {
-        return Reading {
-            count: from,
-            good: false,
-        };
+        return Err(FillError::TooLong);
     }
-    buf[end] = 10;
-    Reading {
-        count: end + 1,
-        good: true,
-    }
+    buf[end] = b'\n';
+    Ok(Some(end + 1))
 }
 
-// The words of the call after the program's name, a line each. Where a word adds nothing there is no other, or it is too long.
-fn read_words(rt: &impl Env, buf: &mut [u8]) -> Reading
-    ensures { IsPrefixLen result.count buf.new }
+// The words of the call after the program's name, a line each.
+fn read_words(rt: &impl Env, buf: &mut [u8]) -> Result<usize, FillError>
+    ensures same_length { length buf.new ≡ length buf.old }
+    ensures prefix_len { IfOk result (λ n. IsPrefixLen n buf.new) }
 {
     let mut done = 0;
     for i in 1..usize::MAX {
-        let next = read_word(rt, i, buf, done);
-        if next.count <= done {
-            return next;
-        }
-        done = next.count;
+        let Some(end) = read_word(rt, i, buf, done)? else {
+            break;
+        };
+        done = end;
     }
-    Reading {
-        count: done,
-        good: true,
-    }
+    Ok(done)
 }
 
 // Writes what the words, if they were read whole, and an input ask for, and answers whether all was read. What was not read whole is no list,
 // as the empty text is none.
+// `whole` stands beside the words, and no Option holds them: the clause `asked` speaks of words that were cut, as must-fail/cut_words.edit answers them.
 pub fn serve<R: Read, W: Write>(
     given: &[u8],
     whole: bool,
@@ -170,22 +141,28 @@ pub fn serve<R: Read, W: Write>(
     ensures not_all { IfOk result (λ all. all ≡ false → Appends (W.contents to.old) (W.contents to.new) (words_of [] [])) }
 {
     let mut buf = room();
-    let text = read_all(input, &mut buf);
-    if whole && text.good {
-        answer(to, given, &buf[..text.count])?;
-        return Ok(true);
+    match read_all(input, &mut buf) {
+        Ok(count) if whole => {
+            answer(to, given, &buf[..count])?;
+            Ok(true)
+        }
+        _ => {
+            answer(to, b"", b"")?;
+            Ok(false)
+        }
     }
-    answer(to, b"", b"")?;
-    Ok(false)
 }
 
 // Writes what the call's words and standard input ask for.
 pub fn run(rt: &(impl Env + Input + Print)) -> io::Result<()> {
     let mut given = room();
-    let words = read_words(rt, &mut given);
+    let (count, whole) = match read_words(rt, &mut given) {
+        Ok(count) => (count, true),
+        Err(_) => (0, false),
+    };
     serve(
-        &given[..words.count],
-        words.good,
+        &given[..count],
+        whole,
         &mut rt.reader(),
         &mut io::writer(rt),
     )?;

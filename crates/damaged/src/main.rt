@@ -3,45 +3,41 @@
 #![tactic(auto)]
 
 use std::io;
-use unit::{Found, Mark, Record, Recovered};
+use unit::{Mark, Record, Refusal};
 use vectors::{Kind, Part, Variable};
 
-fn number(rt: &impl Print, x: u64) -> io::Result<()> {
-    print!(rt; " {x}")
-}
-
 // The refusal, its place and the index.
-fn say_found(rt: &impl Print, f: Found) -> io::Result<()> {
-    print!(rt; "lookup")?;
-    number(rt, f.refusal as u64)?;
-    number(rt, f.place as u64)?;
-    number(rt, f.index as u64)?;
-    println!(rt;)
+fn say_found(rt: &impl Print, found: Result<usize, Refusal>) -> io::Result<()> {
+    match found {
+        Ok(index) => println!(rt; "lookup 0 0 {index}"),
+        Err(refusal) => {
+            let refused = refusal.number();
+            println!(rt; "lookup {refused} 0 0")
+        }
+    }
 }
 
 // The refusal, its place and the vector.
-fn say_recovered(rt: &impl Print, r: Recovered) -> io::Result<()> {
-    print!(rt; "recover")?;
-    number(rt, r.refusal as u64)?;
-    number(rt, r.place as u64)?;
-    number(rt, r.vector)?;
-    println!(rt;)
+fn say_recovered(rt: &impl Print, recovered: Result<u64, Refusal>) -> io::Result<()> {
+    match recovered {
+        Ok(vector) => println!(rt; "recover 0 0 {vector}"),
+        Err(refusal) => {
+            let refused = refusal.number();
+            println!(rt; "recover {refused} 0 0")
+        }
+    }
 }
 
 fn all_keys(rt: &impl Print, u: Record, h: &[u16], g: &[u16], aux: &[u64]) -> io::Result<()> {
-    let mut x: u64 = 0;
-    while x < 64 {
+    for x in 0..64 {
         say_found(rt, unit::lookup(u, h, g, aux, x))?;
-        x += 1;
     }
     Ok(())
 }
 
 fn all_numbers(rt: &impl Print, u: Record, h: &[u16], g: &[u16], aux: &[u64]) -> io::Result<()> {
-    let mut i = 0;
-    while i < 9 {
+    for i in 0..9 {
         say_recovered(rt, unit::recover(u, h, g, aux, i))?;
-        i += 1;
     }
     Ok(())
 }
@@ -191,6 +187,6 @@ fn main(rt: HostRuntime) -> io::Result<()> {
     let mut h = [9u16; 4];
     let mut g = [9u16; 7];
     let mut aux = [9u64; 8];
-    let b = unit::build_chosen(6, 2, 7, 15, &s, &mut h, &mut g, &mut aux);
-    cases(&rt, b.unit, &h, &g, &aux)
+    let built = unit::build_chosen(6, 2, 7, 15, &s, &mut h, &mut g, &mut aux);
+    cases(&rt, built.unwrap_or(record::blank()), &h, &g, &aux)
 }

@@ -7,44 +7,36 @@ use mathlib.Core.List.{List, [], ◌∷◌, ◌++◌, map}
 use borrow.Author.Tests.{eq-eqb, ne_eqb, le-leb, lt-leb}
 use lib.Dec.{eqb, leb}
 use native.Mathlib.Numerals.{add-one}
-use lib.ListN.{length, get_or, take, drop, set, length-map, length-set, length-drop, get_or-append}
+use lib.ListN.{length, get_or, take, drop, set, length-map, length-drop, get_or-append}
 use lib.Seq.{get_or-drop, take_all, take-suc, take-suc-set}
 use Rattle.lists.proofs.Entries.Members.{get_d_map}
-use Rattle.input.specs.declared.Input.{Input}
+use Rattle.input.specs.Input.{Input}
 use Rattle.input.specs.Fields.{fields}
 use Rattle.input.specs.Decimal.{value_of}
 use Rattle.input.specs.Input.{body, listed, good_text, input_from, numbers_in, input_of, vectors_of}
-use Rattle.profiles.specs.declared.Word.{Word}
+use Rattle.profiles.specs.Key.{Word}
+use Rattle.profiles.specs.Key as key
+use Rattle.std.specs.Prelude.{Option, Some, None}
+use Rattle.std.specs.Option.{ok_or}
+use Rattle.dated.specs.declared.NoWord.TheVariants.{Wide}
 use Rattle.profiles.specs.Key.{in_widths, packed, key_of, word_of}
-use Rattle.dated.specs.declared.Dated.{Dated}
-use Rattle.dated.specs.Dated.{max_line, exchanged, spaced, good_line, capped, key_in, no_line, dated_by, dated_of}
+use Rattle.dated.specs.Dated.{Dated}
+use Rattle.dated.specs.Dated.{max_line, exchanged, spaced, good_line, capped, key_in, no_line, dated_by, dated_of, told}
 
--- the first i bytes are written
-pub record Spacing (line out : List ℕ) (i : ℕ) : Type 0 where
-  pub within : i ≤ length line
-  pub size : length out ≡ length line
-  pub is : take i out ≡ take i (map exchanged line)
+module _ (line out : List ℕ) (i : ℕ) where
+  -- one more byte written
+  pub spacing_more : length line ≡ length out → i < length line → take i out ≡ take i (map exchanged line) → (b : ℕ) → b ≡ exchanged (get_or line i 0)
+      → take (i + 1) (set out i b) ≡ take (i + 1) (map exchanged line)
+  spacing_more l h w b e =
+      rw add-one (
+      take-suc-set out i b (omega arith)
+      ∙ ap₂ (λ (l : List ℕ) (x : ℕ). l ++ (x ∷ [])) w (e ∙ sym (get_d_map exchanged line i 0 0 h))
+      ∙ sym (take-suc (map exchanged line) i 0 (omega (arith, length-map line exchanged)))
+      )
 
-module _ (line : List ℕ) where
-  pub spacing_none : (out : List ℕ) → length line ≡ length out → Spacing line out 0
-  spacing_none out e = record { within = omega arith; size = sym e; is = refl }
-
-  module _ (out : List ℕ) (i : ℕ) (w : Spacing line out i) where
-    pub spacing_more : (b : ℕ) → i < length line → b ≡ exchanged (get_or line i 0) → Spacing line (set out i b) (i + 1)
-    spacing_more b h e =
-        rw (add-one i) record {
-          within = h;
-          size = length-set out i b ∙ w.size;
-          is =
-              take-suc-set out i b (omega (arith, w.size))
-              ∙ ap₂ (λ (l : List ℕ) (x : ℕ). l ++ (x ∷ [])) w.is (e ∙ sym (get_d_map exchanged line i 0 0 h))
-              ∙ sym (take-suc (map exchanged line) i 0 (omega (arith, length-map line exchanged)));
-        }
-
-    pub spacing_end : length line ≤ i → out ≡ spaced line
-    unfolding spaced
-    spacing_end h =
-        sym (take_all i out (omega (arith, w.size))) ∙ w.is ∙ take_all i (map exchanged line) (omega (arith, length-map line exchanged))
+  pub spacing_end : length line ≡ length out → length line ≤ i → take i out ≡ take i (map exchanged line) → out ≡ spaced line
+  unfolding spaced
+  spacing_end l h w = sym (take_all i out (omega arith)) ∙ w ∙ take_all i (map exchanged line) (omega (arith, length-map line exchanged))
 
 pub spaced_length : (line : List ℕ) → length (spaced line) ≡ length line
 unfolding spaced
@@ -144,9 +136,14 @@ module _ (line : List ℕ) where
 
           pub line_read : (w : Word)
               → w ≡ word_of (record { press = capped i.n; ink = capped i.degree; substrate = capped i.cells; screen = capped (get_or last 0 0); day = capped (get_or last 1 0) })
-              → record { good = true; wide = not w.good; word = w.word } ≡ dated_of line
+              → dated_by w ≡ dated_of line
           unfolding dated_of key_in
           line_read w e = rw (good, dated_of) (ap dated_by (e ∙ ap word_of key_is))
+
+-- a word, or none of a key that is too wide
+pub told_word : (o : Option ℕ) → told (ok_or o Wide) ≡ dated_by (key.told o)
+told_word (Some w) = refl
+told_word None = refl
 
 -- ---- what is read of a line
 

@@ -1,10 +1,17 @@
 -- A profile key as it is written: five decimal numbers parted by commas (SCOPE 21.10).
-use Rattle.std.specs.Prelude.{ℕ, min, Bool, true, false, cond, not, ◌&&◌, List, map, eqb, leb, length}
+use Rattle.std.specs.Prelude.{ℕ, min, Bool, true, false, cond, not, ◌&&◌, List, map, eqb, leb, length, Result, Ok, Err}
 use Rattle.input.specs.Input.{good_text, listed, numbers_in}
 use Rattle.profiles.specs.declared.Key.{Key}
-use Rattle.profiles.specs.declared.Word.{Word}
+use Rattle.profiles.specs.Key.{Word}
 use Rattle.profiles.specs.Key.{key_of, word_of}
-use Rattle.dated.specs.declared.Dated.{Dated}
+use Rattle.dated.specs.declared.NoWord.{NoWord}
+use Rattle.dated.specs.declared.NoWord.TheVariants.{NoKey, Wide}
+
+-- the word of a key as it was read; wide where a field is over its width, and then the word is 0
+pub record Dated : Type 0 where
+  pub good : Bool
+  pub wide : Bool
+  pub word : ℕ
 
 -- the bytes of the longest line
 abbrev pub max_line : ℕ
@@ -33,6 +40,12 @@ key_in line = key_of (map capped (numbers_in (spaced line)))
 
 abbrev pub no_line : Dated
 no_line = record { good = false; wide = false; word = 0 }
+
+-- what was read of a line
+abbrev pub told : Result ℕ NoWord → Dated
+told (Ok word) = record { good = true; wide = false; word = word }
+told (Err NoKey) = no_line
+told (Err Wide) = record { good = true; wide = true; word = 0 }
 
 -- the word of the key; wide where a field is over its width
 abbrev pub dated_by : Word → Dated

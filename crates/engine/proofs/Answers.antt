@@ -8,8 +8,7 @@ use mathlib.Core.List.{List, map}
 use mathlib.Core.Logic.{⊎_elim}
 use lib.ListN.{length, get_or}
 use Rattle.lists.specs.Members.{every}
-use Rattle.lookup.specs.declared.Found.{Found}
-use Rattle.lookup.specs.Lookup.{lookup_of}
+use Rattle.lookup.specs.Lookup.{Found, lookup_of}
 use Rattle.lookup.proofs.Indices.{found_number, found_index}
 use Rattle.record.specs.Tables.{Tables}
 use Rattle.build.specs.Build.{Outcome}
@@ -22,12 +21,10 @@ use Rattle.bridge.specs.Calls.{left_by, lookup_call}
 use Rattle.bridge.proofs.Answers.{found_called, seen_found}
 use Rattle.profiles.specs.declared.Key.{Key}
 use Rattle.profiles.specs.declared.Slab.{Slab}
-use Rattle.profiles.specs.declared.Held.{Held}
+use Rattle.profiles.specs.Place.{Held, Asked, slab_of, room_of, asked_of, held, refused, place_of}
 use Rattle.profiles.specs.Key.{key_bits, in_widths, packed}
 use Rattle.profiles.specs.Keys.{build_keys}
 use Rattle.profiles.specs.declared.Whose.TheVariants.{House, Brand}
-use Rattle.profiles.specs.declared.Asked.{Asked}
-use Rattle.profiles.specs.Place.{slab_of, room_of, asked_of, held, refused, place_of}
 use Rattle.profiles.proofs.Building.{keys_wide, keys_build}
 use Rattle.profiles.proofs.Placing.{place_unasked, place_refused, place_brand, place_house_refused, place_house}
 use Rattle.engine.specs.Calls.{keys_call, answer, answer_of, profile_call}

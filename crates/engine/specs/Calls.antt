@@ -6,9 +6,8 @@ use Rattle.bridge.specs.Calls.{Left, left_by}
 use Rattle.profiles.specs.declared.Key.{Key}
 use Rattle.profiles.specs.declared.Whose.{Whose}
 use Rattle.profiles.specs.declared.Whose.TheVariants.{House, Brand}
-use Rattle.profiles.specs.declared.Held.{Held}
+use Rattle.profiles.specs.Place.{Held, slab_of, place_of}
 use Rattle.profiles.specs.Keys.{build_keys}
-use Rattle.profiles.specs.Place.{slab_of, place_of}
 
 -- the build of keys: the answer, the record and every word of H, G and AUX
 unfoldable pub keys_call : ℕ → ℕ → ℕ → List Key → Tables → Left

@@ -3,25 +3,42 @@
 
 ghost use Rattle.std.specs.Prelude.{◌≡◌, map, ◌<◌};
 ghost use Rattle.record.specs.Tables.{lent};
+ghost use Rattle.build.specs.Built.{told};
+ghost use Rattle.flat.specs.Flat.{flat_of};
 ghost use Rattle.bridge.specs.Calls.{left};
 ghost use Rattle.profiles.specs.Key.{key_of};
 ghost use Rattle.engine.specs.Calls as spec;
 ghost use Rattle.engine.specs.Calls.{keys_call, profile_call};
 
 use flat::WORDS;
-use profiles::Room;
+use profiles::{Key, Room};
+use record::Record;
+use refusal::Refused;
 
 // A refusal is below the first, and the second in an answer says the brand's slab.
 const REFUSALS: u64 = 256;
 
 const BRAND: u64 = 0x1_0000_0000;
 
-// A refusal and two numbers in one word.
-fn answer(refusal: u8, number: usize, above: usize) -> u64
-    requires { (number < 65536) × (above < 65536) }
-    ensures { result ≡ spec.answer refusal number above }
+// The record of a build goes to words, a blank one beside a refusal. The answer is the refusal, 256 times the place and 2^32 times the cells needed.
+// A twin of the one in `bridge`, which is private: public it would ask its callers for small numbers, and no public function asks anything.
+fn leave(built: Result<Record, Refused>, words: &mut [u64; WORDS]) -> u64
+    requires { ((told built).place < 65536) × ((told built).needed < 65536) }
+    ensures value { result ≡ spec.answer (told built).refusal (told built).place (told built).needed }
+    ensures words_after { words.new ≡ flat_of (told built).unit }
 {
-    refusal as u64 + 256 * (number as u64) + 0x1_0000_0000 * (above as u64)
+    match built {
+        Ok(unit) => {
+            *words = flat::words(unit);
+            0
+        }
+        Err(refused) => {
+            *words = flat::words(record::blank());
+            let refusal = refused.refusal;
+            let number = u64::from(refusal.number());
+            number + 256 * (refused.place as u64) + 0x1_0000_0000 * (refusal.needed() as u64)
+        }
+    }
 }
 
 // The chosen build of a list of keys, with an allowance of tries. The answer is the refusal, 256 times the place and 2^32 times the cells needed.
@@ -39,9 +56,7 @@ pub fn igu_profiles_build(
         ≡ keys_call degree cells allowance (map key_of keys.now) (lent h.old g.old aux.old) }
 {
     let built = profiles::build(degree, cells, allowance, keys, h, g, aux);
-    let unit = built.unit;
-    *words = flat::words(unit);
-    answer(built.refusal, built.place, built.needed)
+    leave(built, words)
 }
 
 // Where a key's profile is: the refusal, 256 times its number, and 2^32 for the brand's slab. As `profiles::find`, by the lookup for C: what it answers is
@@ -74,11 +89,10 @@ pub fn igu_profile(
         size: house_size,
         length: house_slab.len(),
     };
-    let asked = profiles::ask(brand_room, house_room, profiles::key_of(*key));
-    if asked.refusal != 0 {
-        return answer(asked.refusal, 0, 0);
-    }
-    let x = asked.word;
+    let x = match profiles::ask(brand_room, house_room, Key::from(*key)) {
+        Ok(x) => x,
+        Err(refusal) => return u64::from(refusal.number()),
+    };
     let first = bridge::igu_lookup(brand, brand_h, brand_g, brand_aux, x);
     if first == 0 {
         return bridge::igu_lookup(house, house_h, house_g, house_aux, x);

@@ -1,3 +1,4 @@
 pub mod Scanning
 pub mod Faults
 pub mod Told
+pub mod One

@@ -5,7 +5,7 @@ use mathlib.Core.Path.{◌≡◌, refl, sym, ◌∙◌}
 use mathlib.Core.List.{List, [], ◌∷◌}
 use Rattle.input.specs.Input.{max_text}
 use Rattle.fault.specs.declared.State.{State}
-use Rattle.fault.specs.declared.Fault.{Fault}
+use Rattle.fault.specs.Fault.{Fault}
 use Rattle.fault.specs.Fault.{at_start, cause_at, cause_end, past, fault_at, fault_from, fault_of}
 use Rattle.fault.specs.Inner.Within.{Within}
 use Rattle.fault.proofs.Scanning.Causes.{clean}

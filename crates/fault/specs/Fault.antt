@@ -1,10 +1,13 @@
 -- Where a text stops being a list, and what is at fault there (SCOPE 14.11): the text read byte by byte, up to the first fault.
-use Rattle.std.specs.Prelude.{ℕ, zero, suc, ◌+◌, ◌-◌, ◌*◌, ◌%◌, true, false, cond, List, [], ◌∷◌, eqb, leb, ltb}
+use Rattle.std.specs.Prelude.{ℕ, zero, suc, ◌+◌, ◌-◌, ◌*◌, ◌%◌, true, false, cond, List, [], ◌∷◌, eqb, leb, ltb, Option, Some, None, Result, Ok, Err}
 use Rattle.input.specs.Fields.{separator}
 use Rattle.input.specs.Decimal.{max_number, digit}
 use Rattle.input.specs.Input.{max_text, max_listed}
 use Rattle.fault.specs.declared.State.{State}
-use Rattle.fault.specs.declared.Fault.{Fault}
+use Rattle.fault.specs.declared.Fault as code
+use Rattle.fault.specs.declared.Place.{Place}
+use Rattle.fault.specs.declared.Cause.{Cause}
+use Rattle.fault.specs.declared.Cause.TheVariants.{NoDigit, EndBefore, OtherByte, LargeNumber, FewNumbers, ManyVectors, LongText}
 
 -- the separators (SCOPE 14.1)
 abbrev pub space : ℕ
@@ -34,6 +37,27 @@ many_vectors = 6
 
 abbrev pub long_text : ℕ
 long_text = 7
+
+-- the number of a cause, and 0 for none
+abbrev pub number_of : Cause → ℕ
+number_of NoDigit = no_digit
+number_of EndBefore = end_before
+number_of OtherByte = other_byte
+number_of LargeNumber = large_number
+number_of FewNumbers = few_numbers
+number_of ManyVectors = many_vectors
+number_of LongText = long_text
+
+abbrev pub number_or_none : Option Cause → ℕ
+number_or_none (Some c) = number_of c
+number_or_none None = 0
+
+-- what is at fault, and where; cause 0 where nothing is
+pub record Fault : Type 0 where
+  pub cause : ℕ
+  pub line : ℕ
+  pub column : ℕ
+  pub byte : ℕ
 
 -- n, the degree and L, and then the vectors
 abbrev pub max_numbers : ℕ
@@ -94,3 +118,8 @@ fault_from s (b ∷ bs) = elim (cause_at s b) [ zero ↦ fault_from (past s b) b
 unfoldable pub fault_of : List ℕ → Fault
 unfolding fault_from
 fault_of text = fault_from at_start text
+
+-- what was found, by numbers: of a list the place of its end, with no cause
+abbrev pub told : Result Place code.Fault → Fault
+told (Ok p) = record { cause = 0; line = p.line; column = p.column; byte = 0 }
+told (Err f) = record { cause = number_of f.cause; line = f.line; column = f.column; byte = f.byte }

@@ -8,20 +8,6 @@ ghost use Rattle.fault.specs.Inner.Within.{Within};
 
 use input::{MAX_LISTED, MAX_NUMBER, MAX_TEXT};
 
-const NO_DIGIT: u8 = 1;
-
-const END_BEFORE: u8 = 2;
-
-const OTHER_BYTE: u8 = 3;
-
-const LARGE_NUMBER: u8 = 4;
-
-const FEW_NUMBERS: u8 = 5;
-
-const MANY_VECTORS: u8 = 6;
-
-const LONG_TEXT: u8 = 7;
-
 // n, the degree, L and the vectors.
 const MAX_NUMBERS: usize = 3 + MAX_LISTED;
 
@@ -38,13 +24,39 @@ struct State {
     value: u64,
 }
 
-// What is at fault, and where; cause 0 where nothing is.
-#[derive(Clone, Copy)]
+// What is at fault with a byte or with the end.
+#[derive(Clone, Copy, Debug, PartialEq, Eq)]
+pub enum Cause {
+    // A number has to begin, and the byte is no digit.
+    NoDigit,
+    // A number has to begin, and the text ends.
+    EndBefore,
+    // In a number: the byte is no digit, no space and no newline.
+    OtherByte,
+    // The number is above the largest one.
+    LargeNumber,
+    // The text ends before three numbers.
+    FewNumbers,
+    // A number begins after the last vector.
+    ManyVectors,
+    // The text goes on after the longest text.
+    LongText,
+}
+
+// What is at fault, and where; the byte is 0 at the end.
+#[derive(Clone, Copy, Debug, PartialEq, Eq)]
 pub struct Fault {
-    pub cause: u8,
+    pub cause: Cause,
     pub line: usize,
     pub column: usize,
     pub byte: u8,
+}
+
+// Where a text that is a list ends: the place past its last byte.
+#[derive(Clone, Copy, Debug, PartialEq, Eq)]
+pub struct Place {
+    pub line: usize,
+    pub column: usize,
 }
 
 fn counted(s: State) -> usize
@@ -52,121 +64,106 @@ fn counted(s: State) -> usize
     ensures { result ≡ spec.counted s }
 {
     if input::separator(s.last) {
-        return s.count + 1;
+        s.count + 1
+    } else {
+        s.count
     }
-    s.count
 }
 
-fn cause_at(s: State, b: u8) -> u8
+#[tactic(auto, unfolding(crate::specs::Fault::cause_at))]
+fn cause_at(s: State, b: u8) -> Option<Cause>
     requires { s.count ≤ s.at }
-    ensures { result ≡ spec.cause_at s b }
+    ensures { spec.number_or_none result ≡ spec.cause_at s b }
 {
     if MAX_TEXT <= s.at {
-        return LONG_TEXT;
+        return Some(Cause::LongText);
     }
     let begins = input::separator(s.last);
     if input::separator(b) {
-        if begins {
-            return NO_DIGIT;
-        }
-        return 0;
+        return if begins { Some(Cause::NoDigit) } else { None };
     }
     if !input::digit(b) {
-        if begins {
-            return NO_DIGIT;
-        }
-        return OTHER_BYTE;
+        return Some(if begins {
+            Cause::NoDigit
+        } else {
+            Cause::OtherByte
+        });
     }
     if MAX_NUMBERS < counted(s) {
-        return MANY_VECTORS;
+        return Some(Cause::ManyVectors);
     }
-    let d = b as u64 - 48;
+    let d = u64::from(b - b'0');
     if (MAX_NUMBER - d) / 10 < s.value {
-        return LARGE_NUMBER;
+        return Some(Cause::LargeNumber);
     }
-    0
+    None
 }
 
-fn cause_end(s: State) -> u8
-    ensures { result ≡ spec.cause_end s }
+#[tactic(auto, unfolding(crate::specs::Fault::cause_end))]
+fn cause_end(s: State) -> Option<Cause>
+    ensures { spec.number_or_none result ≡ spec.cause_end s }
 {
-    if s.last == 32 {
-        return END_BEFORE;
+    if s.last == b' ' {
+        Some(Cause::EndBefore)
+    } else if s.count < 3 {
+        Some(Cause::FewNumbers)
+    } else {
+        None
     }
-    if s.count < 3 {
-        return FEW_NUMBERS;
-    }
-    0
 }
 
 // The state after a byte that is not at fault.
+#[tactic(auto, unfolding(crate::specs::Fault::past))]
 fn past(s: State, b: u8) -> State
     requires { Within s × (spec.cause_at s b ≡ 0) }
     ensures { result ≡ spec.past s b }
 {
-    let count = counted(s);
-    if b == 10 {
-        return State {
-            at: s.at + 1,
-            line: s.line + 1,
-            column: FIRST_COLUMN,
-            count,
-            last: b,
-            value: 0,
-        };
-    }
-    if b == 32 {
-        return State {
-            at: s.at + 1,
-            line: s.line,
-            column: s.column + 1,
-            count,
-            last: b,
-            value: 0,
-        };
-    }
+    let ends = b == b'\n';
     State {
         at: s.at + 1,
-        line: s.line,
-        column: s.column + 1,
-        count,
+        line: if ends { s.line + 1 } else { s.line },
+        column: if ends { FIRST_COLUMN } else { s.column + 1 },
+        count: counted(s),
         last: b,
-        value: 10 * s.value + (b as u64 - 48),
+        value: if input::separator(b) {
+            0
+        } else {
+            10 * s.value + u64::from(b - b'0')
+        },
     }
 }
 
-// The first fault of a text.
-pub fn find(text: &[u8]) -> Fault
-    ensures { result ≡ spec.fault_of text.now }
+// The first fault of a text, or where a text that is a list ends.
+pub fn find(text: &[u8]) -> Result<Place, Fault>
+    ensures { spec.told result ≡ spec.fault_of text.now }
 {
     let mut s = State {
         at: 0,
         line: 1,
         column: FIRST_COLUMN,
         count: 0,
-        last: 32,
+        last: b' ',
         value: 0,
     };
-    let mut i = 0;
-    while i < text.len() {
-        let b = text[i];
-        let cause = cause_at(s, b);
-        if cause != 0 {
-            return Fault {
+    for b in text {
+        if let Some(cause) = cause_at(s, *b) {
+            return Err(Fault {
                 cause,
                 line: s.line,
                 column: s.column,
-                byte: b,
-            };
+                byte: *b,
+            });
         }
-        s = past(s, b);
-        i += 1;
+        s = past(s, *b);
     }
-    let cause = cause_end(s);
-    Fault {
-        cause,
-        line: s.line,
-        column: s.column,
-        byte: 0,
+    let State { line, column, .. } = s;
+    match cause_end(s) {
+        Some(cause) => Err(Fault {
+            cause,
+            line,
+            column,
+            byte: 0,
+        }),
+        None => Ok(Place { line, column }),
     }
 }

@@ -1,4 +1,5 @@
 pub mod Layout
+pub mod Kinds
 pub mod File
 pub mod Plan
 pub mod Write

@@ -1,10 +1,22 @@
 -- What a call of `write` leaves (SCOPE 20.9).
-use Rattle.std.specs.Prelude.{ℕ, true, false, List, ltb, length}
+use Rattle.std.specs.Prelude.{ℕ, true, false, Result, Ok, Err, List, ltb, length}
+use Rattle.refusal.specs.declared.Refusal.{Refusal}
+use Rattle.refusal.specs.Refusal.{number_of}
 use Rattle.record.specs.declared.Record.{Record}
 use Rattle.record.specs.Tables.{Tables, over}
 use Rattle.record.specs.Formed.{sound}
-use Rattle.file.specs.declared.Written.{Written}
 use Rattle.file.specs.File.{file_of}
+
+-- the refusal's number and its place, 0 and 0 where the call is accepted; the file's length, 0 beside a refusal
+pub record Written : Type 0 where
+  pub refusal : ℕ
+  pub place : ℕ
+  pub length : ℕ
+
+-- a length, or a refusal by name
+abbrev pub told : Result ℕ Refusal → Written
+told (Ok n) = record { refusal = 0; place = 0; length = n }
+told (Err refused) = record { refusal = number_of refused; place = 0; length = 0 }
 
 -- the answer, and the target's bytes after the call
 pub record Outcome : Type 0 where

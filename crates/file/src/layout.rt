@@ -1,21 +1,47 @@
 // The layout of a file: the kinds of its blocks, the places of the head's fields, and where the tables lie.
 ghost use Rattle.std.specs.Prelude.{◌≡◌, ◌≤◌};
-ghost use Rattle.file.specs.File.{blocks_for};
+ghost use Rattle.file.specs.Kinds.{byte_of};
+ghost use Rattle.file.specs.File.{opening, blocks_for};
 ghost use Rattle.file.specs.Plan.{plan_of};
 
-use block::{WORDS16, WORDS64};
+use block::{Opening, Word};
 
-// Byte 0 of a block.
-pub const HEAD: u8 = 85;
+// What the blocks of a file hold: the head, or words of H, of G or of AUX.
+#[derive(Clone, Copy, PartialEq, Eq, Debug)]
+pub enum BlockKind {
+    Head,
+    H,
+    G,
+    Aux,
+}
 
-pub const H: u8 = 72;
-
-pub const G: u8 = 71;
-
-pub const AUX: u8 = 65;
+impl BlockKind {
+    // Byte 0 of such a block.
+    pub fn byte(self) -> u8
+        ensures { result ≡ byte_of self }
+    {
+        match self {
+            BlockKind::Head => b'U',
+            BlockKind::H => b'H',
+            BlockKind::G => b'G',
+            BlockKind::Aux => b'A',
+        }
+    }
+}
 
 // Byte 1 of a block.
-pub const VERSION: u8 = 1;
+const VERSION: u8 = 1;
+
+// How block `number` of a file begins.
+pub fn opening(kind: BlockKind, number: usize) -> Opening
+    ensures { result ≡ opening (byte_of kind) number }
+{
+    Opening {
+        kind: kind.byte(),
+        version: VERSION,
+        number,
+    }
+}
 
 pub const LETTERS: [u8; 4] = *b"IGU1";
 
@@ -50,7 +76,7 @@ pub(crate) fn blocks_for(per: usize, words: usize) -> usize
     ensures value { result ≡ blocks_for per words }
     ensures upper_bound { result ≤ words }
 {
-    (words + (per - 1)) / per
+    words.div_ceil(per)
 }
 
 // The numbers of the first blocks of G and AUX, and of the block past the last, with so many words of H, G and AUX.
@@ -64,8 +90,8 @@ pub struct Starts {
 pub fn plan(rows: u16, cells: u16, words: u16) -> Starts
     ensures { result ≡ plan_of rows cells words }
 {
-    let g = H_FIRST + blocks_for(WORDS16, rows as usize);
-    let aux = g + blocks_for(WORDS16, cells as usize);
-    let past = aux + blocks_for(WORDS64, words as usize);
+    let g = H_FIRST + blocks_for(u16::PER_BLOCK, rows as usize);
+    let aux = g + blocks_for(u16::PER_BLOCK, cells as usize);
+    let past = aux + blocks_for(u64::PER_BLOCK, words as usize);
     Starts { g, aux, past }
 }

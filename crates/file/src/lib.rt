@@ -5,11 +5,3 @@ pub mod layout;
 mod writing;
 
 pub use writing::write;
-
-// How a call of `write` ends; length is the file's.
-#[derive(Clone, Copy)]
-pub struct Written {
-    pub refusal: u8,
-    pub place: usize,
-    pub length: usize,
-}

@@ -1,55 +1,43 @@
 // A unit written as a file.
-ghost use Rattle.std.specs.Prelude.{◌≡◌, ◌∷◌, [], ◌++◌, ◌+◌, ◌*◌, ◌≤◌, drop, length, take};
+ghost use Rattle.std.specs.Prelude.{◌≡◌, ◌+◌, ◌*◌, ◌≤◌, length, map};
 ghost use Rattle.std.proofs.lemmas.List.Edits.{sets};
 ghost use Rattle.vectors.specs.Variable.{kinds_of};
 ghost use Rattle.record.specs.Tables.{lent};
-ghost use Rattle.block.specs.Block.{block_size, short_word, long_word, short_words, long_words};
+ghost use Rattle.vectors.specs.Bounds.{max_variables};
+ghost use Rattle.block.specs.Block.{block_size};
+ghost use Rattle.file.specs.Kinds.{byte_of};
 ghost use Rattle.file.specs.Layout.{variables_at};
 ghost use Rattle.file.specs.File.{variable_bytes, variables_bytes, head_of, blocks_for, table_of, rows_in, words_in, g_first, aux_first, size_of, file_with};
-ghost use Rattle.file.specs.Write.{after, write_of};
+ghost use Rattle.file.specs.Write.{told, after, write_of};
 
-use crate::layout::Starts;
-use crate::{Written, layout};
-use block::{Opening, SIZE, WORDS16, WORDS64};
+use crate::layout;
+use crate::layout::{
+    BlockKind, CELLS_AT, H_FIRST, K_AT, LETTERS, LETTERS_AT, MARK_AT, N_AT, N1_AT, P_AT, Starts,
+    TRIES_AT, VARIABLES_AT,
+};
+use block::{SIZE, Word};
 use record::Record;
+use refusal::Refusal;
 use vectors::{Kind, MAX_VARIABLES, Variable};
 
-#[derive(Clone, Copy)]
-struct Pair {
-    first: u8,
-    second: u8,
-}
-
 // The positions of a variable, the second 0 for a single input.
-fn positions(kind: Kind) -> Pair
-    ensures { result.first ∷ result.second ∷ [] ≡ variable_bytes kind }
+fn positions(kind: Kind) -> [u8; 2]
+    ensures { result ≡ variable_bytes kind }
 {
     match kind {
-        Kind::One(i) => Pair {
-            first: i,
-            second: 0,
-        },
-        Kind::Two(i, j) => Pair {
-            first: i,
-            second: j,
-        },
+        Kind::One(i) => [i, 0],
+        Kind::Two(i, j) => [i, j],
     }
 }
 
-// Writes the first p variables into the head.
-fn put_variables(variables: [Variable; MAX_VARIABLES], p: usize, head: &mut [u8])
-    requires { length head.old ≡ block_size }
-    ensures { head.new ≡ sets head.old variables_at (variables_bytes (kinds_of (take p variables))) }
+// Writes the variables into the head.
+fn put_variables(variables: &[Variable], head: &mut [u8; SIZE])
+    requires { length variables.now ≤ max_variables }
+    ensures { head.new ≡ sets head.old variables_at (variables_bytes (kinds_of variables.now)) }
 {
-    let last = lists::least(p, MAX_VARIABLES);
-    let mut i = 0;
-    while i < last {
-        let v = variables[i];
-        let kind = v.kind;
-        let x = positions(kind);
-        head[layout::VARIABLES_AT + 2 * i] = x.first;
-        head[layout::VARIABLES_AT + 2 * i + 1] = x.second;
-        i += 1;
+    for (i, v) in variables.iter().enumerate() {
+        let at = VARIABLES_AT + 2 * i;
+        head[at..at + 2].copy_from_slice(&positions(v.kind));
     }
 }
 
@@ -57,117 +45,62 @@ fn put_variables(variables: [Variable; MAX_VARIABLES], p: usize, head: &mut [u8]
 fn head(unit: Record) -> [u8; SIZE]
     ensures { result ≡ head_of unit }
 {
-    let mut b = block::opened(Opening {
-        kind: layout::HEAD,
-        version: layout::VERSION,
-        number: 0,
-    });
-    b[layout::LETTERS_AT] = layout::LETTERS[0];
-    b[layout::LETTERS_AT + 1] = layout::LETTERS[1];
-    b[layout::LETTERS_AT + 2] = layout::LETTERS[2];
-    b[layout::LETTERS_AT + 3] = layout::LETTERS[3];
-    b[layout::N_AT] = (unit.n % 256) as u8;
-    b[layout::P_AT] = (unit.p % 256) as u8;
-    b[layout::N1_AT] = (unit.n1 % 256) as u8;
-    b[layout::K_AT] = (unit.k % 256) as u8;
-    b[layout::K_AT + 1] = (unit.k / 256 % 256) as u8;
-    b[layout::CELLS_AT] = (unit.cells % 256) as u8;
-    b[layout::CELLS_AT + 1] = (unit.cells / 256 % 256) as u8;
-    b[layout::TRIES_AT] = (unit.tries % 256) as u8;
-    b[layout::TRIES_AT + 1] = (unit.tries / 256 % 256) as u8;
-    b[layout::TRIES_AT + 2] = (unit.tries / 256 / 256 % 256) as u8;
-    b[layout::TRIES_AT + 3] = (unit.tries / 256 / 256 / 256 % 256) as u8;
-    let variables = unit.variables;
-    put_variables(variables, unit.p, &mut b);
-    let mark = unit.mark;
-    b[layout::MARK_AT] = record::mark_number(mark);
+    let mut b = block::opened(layout::opening(BlockKind::Head, 0));
+    b[LETTERS_AT..N_AT].copy_from_slice(&LETTERS);
+    block::put_number(unit.n as u64, &mut b[N_AT..P_AT]);
+    block::put_number(unit.p as u64, &mut b[P_AT..N1_AT]);
+    block::put_number(unit.n1 as u64, &mut b[N1_AT..K_AT]);
+    block::put_number(unit.k as u64, &mut b[K_AT..CELLS_AT]);
+    block::put_number(unit.cells as u64, &mut b[CELLS_AT..TRIES_AT]);
+    block::put_number(unit.tries, &mut b[TRIES_AT..VARIABLES_AT]);
+    put_variables(&unit.variables[..unit.p.min(MAX_VARIABLES)], &mut b);
+    b[MARK_AT] = u8::from(unit.mark);
     block::sealed(b)
 }
 
 // Writes the words as blocks of a kind, the first of them block number `first` of the file.
-fn put16(kind: u8, first: usize, words: &[u16], target: &mut [u8])
-    requires { (length words.now ≤ 65536) × (block_size * (first + blocks_for short_words (length words.now)) ≤ length target.old) }
-    ensures { target.new ≡ sets target.old (block_size * first) (table_of kind short_word short_words first words.now) }
+fn put<W: Word>(kind: BlockKind, first: usize, words: &[W], target: &mut [u8])
+    requires { (length words.now ≤ 65536) × (block_size * (first + blocks_for W.PER_BLOCK (length words.now)) ≤ length target.old) }
+    ensures { target.new ≡ sets target.old (block_size * first) (table_of (byte_of kind) W.SIZE W.PER_BLOCK first (map W.value words.now)) }
 {
-    let count = layout::blocks_for(WORDS16, words.len());
-    let mut i = 0;
-    while i < count {
+    for i in 0..layout::blocks_for(W::PER_BLOCK, words.len()) {
         let number = first + i;
         let at = SIZE * number;
-        block::fill16(
-            Opening {
-                kind,
-                version: layout::VERSION,
-                number,
-            },
-            &words[WORDS16 * i..],
+        block::fill(
+            layout::opening(kind, number),
+            &words[W::PER_BLOCK * i..],
             &mut target[at..at + SIZE],
         );
-        i += 1;
     }
 }
 
-fn put64(kind: u8, first: usize, words: &[u64], target: &mut [u8])
-    requires { (length words.now ≤ 65536) × (block_size * (first + blocks_for long_words (length words.now)) ≤ length target.old) }
-    ensures { target.new ≡ sets target.old (block_size * first) (table_of kind long_word long_words first words.now) }
-{
-    let count = layout::blocks_for(WORDS64, words.len());
-    let mut i = 0;
-    while i < count {
-        let number = first + i;
-        let at = SIZE * number;
-        block::fill64(
-            Opening {
-                kind,
-                version: layout::VERSION,
-                number,
-            },
-            &words[WORDS64 * i..],
-            &mut target[at..at + SIZE],
-        );
-        i += 1;
-    }
-}
-
-// Writes the bytes over the first of the target.
-fn copy(from: &[u8], target: &mut [u8])
-    requires { length from.now ≤ length target.old }
-    ensures { target.new ≡ from.now ++ drop (length from.now) target.old }
-{
-    target[..from.len()].copy_from_slice(from);
-}
-
-// The head and the tables, which are lent as long as the unit has them.
+// The head and the tables, which are lent as long as the unit has them. They are three slices as in write.
 fn fill(unit: Record, starts: Starts, h: &[u16], g: &[u16], aux: &[u64], target: &mut [u8])
     requires sizes { (length h.now ≡ rows_in unit) × (length g.now ≡ unit.cells) × (length aux.now ≡ words_in unit) }
     requires few { (rows_in unit ≤ 65536) × (unit.cells ≤ 65536) × (words_in unit ≤ 65536) }
     requires room { (starts.g ≡ g_first unit) × (starts.aux ≡ aux_first unit) × (size_of unit ≤ length target.old) }
     ensures { target.new ≡ sets target.old 0 (file_with unit h.now g.now aux.now) }
 {
-    let b = head(unit);
-    copy(&b, target);
-    put16(layout::H, layout::H_FIRST, h, target);
-    put16(layout::G, starts.g, g, target);
-    put64(layout::AUX, starts.aux, aux, target);
+    target[..SIZE].copy_from_slice(&head(unit));
+    put(BlockKind::H, H_FIRST, h, target);
+    put(BlockKind::G, starts.g, g, target);
+    put(BlockKind::Aux, starts.aux, aux, target);
 }
 
-fn refused(refusal: u8) -> Written
-    ensures { result ≡ record { refusal = refusal; place = 0; length = 0 } }
-{
-    Written {
-        refusal,
-        place: 0,
-        length: 0,
-    }
-}
-
-// Writes the file of a sound unit; bytes past it keep their value. Refused as 14 where the unit is not sound, and as 20 where the target is
-// shorter than the file, with nothing written.
-pub fn write(unit: Record, h: &[u16], g: &[u16], aux: &[u64], target: &mut [u8]) -> Written
-    ensures { after result target.new ≡ write_of unit (lent h.now g.now aux.now) target.old }
+// Writes the file of a sound unit, and answers its length; bytes past it keep their value. Refused as `NoUnit` where the unit is not sound,
+// and as `ShortTarget` where the target is shorter than the file, with nothing written.
+// H, G and AUX are no struct: each caller has them as three slices (the C interface), and it would be taken apart in fill.
+pub fn write(
+    unit: Record,
+    h: &[u16],
+    g: &[u16],
+    aux: &[u64],
+    target: &mut [u8],
+) -> Result<usize, Refusal>
+    ensures { after (told result) target.new ≡ write_of unit (lent h.now g.now aux.now) target.old }
 {
     if !record::sound(unit, h, g, aux) {
-        return refused(14);
+        return Err(Refusal::NoUnit);
     }
     let rows = 1usize << unit.n1;
     let cells = unit.cells;
@@ -175,12 +108,8 @@ pub fn write(unit: Record, h: &[u16], g: &[u16], aux: &[u64], target: &mut [u8])
     let starts = layout::plan(rows as u16, cells as u16, words as u16);
     let length = SIZE * starts.past;
     if target.len() < length {
-        return refused(20);
+        return Err(Refusal::ShortTarget);
     }
     fill(unit, starts, &h[..rows], &g[..cells], &aux[..words], target);
-    Written {
-        refusal: 0,
-        place: 0,
-        length,
-    }
+    Ok(length)
 }

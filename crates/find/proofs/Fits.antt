@@ -13,14 +13,13 @@ use Rattle.record.specs.declared.Record.{Record}
 use Rattle.record.specs.Tables.{Tables}
 use Rattle.lookup.specs.Lookup.{lookup_of}
 use Rattle.lookup.proofs.Indices.{found_index, found_number}
-use Rattle.many.specs.declared.Many.{Many}
+use Rattle.many.specs.Lookups.{Many}
 use Rattle.many.specs.Lookups.{or_else, first_refused}
 use Rattle.print.specs.Line.{newline}
 use Rattle.print.specs.Print.{max_bytes}
 use Rattle.print.proofs.Pages.Sizes.{refused_low}
 use Rattle.print.proofs.Pages.Lengths.{line_ends, beside_low}
-use Rattle.find.specs.declared.keys.Key.{Key}
-use Rattle.find.specs.Keys.{max_keys, key_of, keys_from, keys_in, good_keys, values_in}
+use Rattle.find.specs.Keys.{Key, max_keys, key_of, keys_from, keys_in, good_keys, values_in}
 use Rattle.find.specs.Find.{indices_of, find_text}
 use Rattle.find.proofs.Lines.{good_few}
 use Rattle.find.proofs.Looks.{find_no, find_refused, find_all}

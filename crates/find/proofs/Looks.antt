@@ -1,5 +1,5 @@
 -- The keys looked up together, and what is printed in each case. Assumes nothing.
-use Prim.Native.Nat.{ℕ, ◌≤◌}
+use Prim.Native.Nat.{ℕ}
 use native.Mathlib.Omega.{arith}
 use mathlib.Core.Path.{◌≡◌, sym, ap, ◌∙◌}
 use mathlib.Core.Bool.{true, false}
@@ -7,13 +7,11 @@ use mathlib.Core.List.{List, ◌++◌, append-nil}
 use borrow.Author.Tests.{eq-eqb, ne_eqb}
 use lib.ListN.{length, take, drop, length-map, drop_of_length-le}
 use lib.Seq.{take_at}
-use Rattle.lists.proofs.Writing.Storing.{Storing}
 use Rattle.record.specs.declared.Record.{Record}
 use Rattle.record.specs.Tables.{Tables}
 use Rattle.lookup.specs.Lookup.{lookup_of}
-use Rattle.many.specs.declared.Many.{Many}
+use Rattle.many.specs.Lookups.{Many}
 use Rattle.many.specs.Lookups.{first_refused, Left, left, left_by, lookup_many}
-use Rattle.many.proofs.Stored.{stored_all}
 use Rattle.many.proofs.Keys.{many_by}
 use Rattle.print.specs.Line.{beside}
 use Rattle.print.specs.Print.{fitted, refused_text, beside_of}
@@ -21,13 +19,6 @@ use Rattle.print.proofs.Pages.Fitting.{beside_fits}
 use Rattle.find.specs.Keys.{good_keys, values_in}
 use Rattle.find.specs.Find.{input_text, indices_of, found_text, find_text}
 use Rattle.find.proofs.Lines.{good_few}
-
--- as many words as are written take all of them
-pub widened : (narrow old l : List ℕ) (i : ℕ) → length narrow ≡ length old → length narrow ≤ i → Storing narrow old 0 l i → l ≡ narrow
-widened narrow old l i e h s = stored_all narrow old l i (omega arith) h s ∙ none
-  where
-    none : narrow ++ drop (length narrow) old ≡ narrow
-    none = rw (drop_of_length-le old {i = length narrow} (omega arith)) (append-nil narrow)
 
 module _ (u : Record) (t : Tables) where
   -- with a word for each key

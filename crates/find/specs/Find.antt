@@ -3,7 +3,7 @@ use Rattle.std.specs.Prelude.{ℕ, true, false, List, map, eqb}
 use Rattle.record.specs.declared.Record.{Record}
 use Rattle.record.specs.Tables.{Tables}
 use Rattle.lookup.specs.Lookup.{lookup_of}
-use Rattle.many.specs.declared.Many.{Many}
+use Rattle.many.specs.Lookups.{Many}
 use Rattle.many.specs.Lookups.{first_refused}
 use Rattle.print.specs.Ascii.{ascii}
 use Rattle.print.specs.Line.{line, beside}

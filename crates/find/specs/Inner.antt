@@ -1,11 +1,13 @@
 -- What the contracts of inner functions cite, and no public contract.
-use Rattle.std.specs.Prelude.{ℕ, ◌≤◌, ◌≡◌, Bool, true, false, List, length, take}
-use Rattle.find.specs.Keys.{max_keys, good_keys, values_in}
+use Rattle.std.specs.Prelude.{ℕ, ◌≤◌, ◌≡◌, true, false, List, length, take, Option, Some, None, MatchOption}
+use Rattle.find.specs.Keys.{Key, max_keys, no_key, good_keys, values_in}
 
--- what reading a text leaves: whether it is good, and if so how many keys it has, none if not, and they stand in front of the words
-pub record ReadAs (text : List ℕ) (good : Bool) (count : ℕ) (words : List ℕ) : Type 0 where
+-- a key that was read, as a record
+abbrev pub told : Option ℕ → Key
+told (Some v) = record { good = true; value = v }
+told None = no_key
+
+-- what reading a text leaves: whether it is good, and if so how many keys it has, and they stand in front of the words
+pub record ReadAs (text : List ℕ) (count : Option ℕ) (words : List ℕ) : Type 0 where
   pub size : length words ≡ max_keys
-  pub few : count ≤ max_keys
-  pub is : good ≡ good_keys text
-  pub none : good ≡ false → count ≡ 0
-  pub values : good ≡ true → take count words ≡ values_in text
+  pub is : MatchOption count (good_keys text ≡ false) (λ n. (good_keys text ≡ true) × (n ≤ max_keys) × (take n words ≡ values_in text))

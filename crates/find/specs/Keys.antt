@@ -3,9 +3,13 @@ use Rattle.std.specs.Prelude.{ℕ, suc, ◌+◌, ◌-◌, ◌*◌, ◌^◌, Bool
 use Rattle.lists.specs.Members.{every}
 use Rattle.print.specs.Line.{newline}
 use Rattle.print.specs.Print.{max_bytes}
-use Rattle.dated.specs.declared.Dated.{Dated}
+use Rattle.dated.specs.Dated.{Dated}
 use Rattle.dated.specs.Dated.{dated_of}
-use Rattle.find.specs.declared.keys.Key.{Key}
+
+-- a key's value; 0 where it is not good
+pub record Key : Type 0 where
+  pub good : Bool
+  pub value : ℕ
 
 -- the largest key that may be written
 abbrev pub max_key : ℕ

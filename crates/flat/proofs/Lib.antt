@@ -1,4 +1,3 @@
 pub mod Ranges
-pub mod Signs
 pub mod Records
 pub mod Carried

@@ -49,10 +49,10 @@ pub unit_seen_lem : (words : List ℕ) (variables : List Variable) → variables
 unfolding unit_seen unit_at
 unit_seen_lem words variables f e = ap (unit_with words) f ∙ sym (ap (λ (b : Bool). cond b (unit_at words) (unreadable (get_or words 3 0))) e)
 
--- the blank record with another k
+-- the blank record with another k, as the code makes it
 abbrev keyed : Record → ℕ → Record
 keyed b k =
-    record { n = b.n; p = b.p; n1 = b.n1; k = k; cells = b.cells; kept = b.kept; tries = b.tries; excess = b.excess; variables = b.variables; mark = b.mark }
+    record { n = b.n; p = b.p; n1 = b.n1; k = k; cells = b.cells; kept = b.kept; tries = b.tries; excess = to_z w64 (of_z w64 b.excess); variables = b.variables; mark = b.mark }
 
 pub seen_unread : (words : List ℕ) (b : Record) → all_in_range (variable_words words) ≡ false → b ≡ blank_record → keyed b (get_or words 3 0) ≡ unit_seen words
 unfolding unit_seen

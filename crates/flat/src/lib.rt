@@ -6,7 +6,7 @@ ghost use Rattle.std.specs.Int.{w64};
 ghost use Rattle.std.proofs.Common.{to_z, of_z};
 ghost use Rattle.flat.specs.Flat as spec;
 
-use record::Record;
+use record::{Mark, Record};
 use vectors::{Kind, MAX_VARIABLES, Part, Variable};
 
 // The words of a flat record; variables stand in words 8 to 31, the mark behind them.
@@ -14,12 +14,13 @@ pub const WORDS: usize = 40;
 
 const MARK_PLACE: usize = 32;
 
+// Functions and not From: Kind and Part belong to crate vectors, and this word of them to the flat record alone.
 fn kind_word(kind: Kind) -> u64
     ensures { (result ≡ spec.kind_word kind) × (result < 65536) }
 {
     match kind {
-        Kind::One(i) => i as u64,
-        Kind::Two(i, j) => i as u64 + 256 * (j as u64),
+        Kind::One(i) => u64::from(i),
+        Kind::Two(i, j) => u64::from(i) + 256 * u64::from(j),
     }
 }
 
@@ -35,9 +36,7 @@ fn part_word(part: Part) -> u64
 fn word(variable: Variable) -> u64
     ensures { result ≡ spec.variable_word variable }
 {
-    let kind = variable.kind;
-    let part = variable.part;
-    kind_word(kind) + 65536 * part_word(part)
+    kind_word(variable.kind) + 65536 * part_word(variable.part)
 }
 
 fn kind_at(i: u8, j: u8) -> Kind
@@ -70,12 +69,9 @@ fn low_variable(word: u64) -> Variable
 pub fn low_variables(words: &[u64]) -> [Variable; MAX_VARIABLES]
     ensures { result ≡ spec.low_variables words.now }
 {
-    let count = lists::least(words.len(), MAX_VARIABLES);
     let mut v = vectors::blank_variables();
-    let mut i = 0;
-    while i < count {
+    for i in 0..words.len().min(MAX_VARIABLES) {
         v[i] = low_variable(words[i]);
-        i += 1;
     }
     v
 }
@@ -94,12 +90,10 @@ fn variable_at(word: u64) -> Variable
 pub fn variables(words: &[u64; MAX_VARIABLES]) -> [Variable; MAX_VARIABLES]
     ensures { result ≡ map spec.variable_at words.now }
 {
-    let all = &words[..];
+    // No map of the array: that takes several hundred bytes of stack, which igu_build_given has in use while rows are placed.
     let mut v = vectors::blank_variables();
-    let mut i = 0;
-    while i < MAX_VARIABLES {
-        v[i] = variable_at(all[i]);
-        i += 1;
+    for (i, word) in words.iter().enumerate() {
+        v[i] = variable_at(*word);
     }
     v
 }
@@ -109,10 +103,8 @@ fn all_in_range(words: &[u64]) -> bool
     ensures { result ≡ spec.all_in_range words.now }
 {
     let mut bits: u64 = 0;
-    let mut i = 0;
-    while i < words.len() {
-        bits |= words[i];
-        i += 1;
+    for word in words {
+        bits |= *word;
     }
     bits < 131072
 }
@@ -121,27 +113,7 @@ fn all_in_range(words: &[u64]) -> bool
 pub fn readable(words: &[u64; WORDS]) -> bool
     ensures { result ≡ spec.all_in_range (spec.variable_words words.now) }
 {
-    let all = &words[..];
-    all_in_range(&all[8..32])
-}
-
-// A signed number in two's complement, and back.
-fn twos(z: i64) -> u64
-    ensures { result ≡ of_z w64 z }
-{
-    if z < 0 {
-        return !((-1 - z) as u64);
-    }
-    z as u64
-}
-
-fn signed(w: u64) -> i64
-    ensures { result ≡ to_z w64 w }
-{
-    if w < 0x8000000000000000 {
-        return w as i64;
-    }
-    -1 - ((!w) as i64)
+    all_in_range(&words[8..32])
 }
 
 // The words of the variables.
@@ -149,11 +121,8 @@ fn write_variables(variables: [Variable; MAX_VARIABLES], words: &mut [u64])
     requires { length words.old ≡ 24 }
     ensures { words.new ≡ map spec.variable_word variables }
 {
-    let mut i = 0;
-    while i < MAX_VARIABLES {
-        let v = variables[i];
-        words[i] = word(v);
-        i += 1;
+    for (i, v) in variables.iter().enumerate() {
+        words[i] = word(*v);
     }
 }
 
@@ -169,11 +138,9 @@ pub fn words(unit: Record) -> [u64; WORDS]
     w[4] = unit.cells as u64;
     w[5] = unit.kept;
     w[6] = unit.tries;
-    w[7] = twos(unit.excess);
-    let mark = unit.mark;
-    w[MARK_PLACE] = record::mark_number(mark) as u64;
-    let variables = unit.variables;
-    write_variables(variables, &mut w[8..32]);
+    w[7] = unit.excess.cast_unsigned();
+    w[MARK_PLACE] = u64::from(u8::from(unit.mark));
+    write_variables(unit.variables, &mut w[8..32]);
     w
 }
 
@@ -189,22 +156,22 @@ pub fn unit(words: &[u64; WORDS], variables: [Variable; MAX_VARIABLES]) -> Recor
         cells: words[4] as usize,
         kept: words[5],
         tries: words[6],
-        excess: signed(words[7]),
+        excess: words[7].cast_signed(),
         variables,
-        mark: record::mark_of(words[MARK_PLACE]),
+        mark: Mark::from(words[MARK_PLACE]),
     }
 }
 
 // The unit of any record: one with no input, which is refused as 14, where a word of the variables is out of range.
+// No Option: what C's calls promise, each says of `unit_seen words`, whatever the words are.
 pub fn seen(words: &[u64; WORDS]) -> Record
     ensures { result ≡ spec.unit_seen words.now }
 {
     if !readable(words) {
-        let mut none = record::blank();
-        none.k = words[3] as usize;
-        return none;
+        return Record {
+            k: words[3] as usize,
+            ..record::blank()
+        };
     }
-    let all = &words[..];
-    let v = low_variables(&all[8..32]);
-    unit(words, v)
+    unit(words, low_variables(&words[8..32]))
 }

@@ -1,4 +1,3 @@
--- How a text is read: its fields from a place on, its numbers one by one, and the texts that are good. Assumes nothing.
-pub mod Fields
+-- How a text is read: its fields, its numbers one by one, and the texts that are good. Assumes nothing.
 pub mod Numbers
 pub mod Texts

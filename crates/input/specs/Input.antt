@@ -1,9 +1,17 @@
 -- The program's input: a text of decimal numbers, which are n, degree and L, then the vectors (SCOPE 14.1 to 14.3).
-use Rattle.std.specs.Prelude.{ℕ, ◌-◌, Bool, true, false, cond, ◌&&◌, List, ◌++◌, map, eqb, leb, length, get_or, take, drop}
-use Rattle.input.specs.declared.Input.{Input}
+use Rattle.std.specs.Prelude.{ℕ, ◌-◌, Bool, true, false, cond, ◌&&◌, List, ◌++◌, map, eqb, leb, length, get_or, take, drop, Option, Some, None}
+use Rattle.input.specs.declared.Input as code
 use Rattle.input.specs.Fields.{fields}
 use Rattle.lists.specs.Members.{every}
 use Rattle.input.specs.Decimal.{good_field, value_of}
+
+-- what a text says; of a text that is not good every number is 0
+pub record Input : Type 0 where
+  pub good : Bool
+  pub n : ℕ
+  pub degree : ℕ
+  pub cells : ℕ
+  pub count : ℕ
 
 -- SCOPE 14.3 h: the bytes of the longest text, 64 KiB
 abbrev pub max_text : ℕ
@@ -36,6 +44,11 @@ good_text text room =
 
 abbrev pub no_input : Input
 no_input = record { good = false; n = 0; degree = 0; cells = 0; count = 0 }
+
+-- what was read
+abbrev pub told : Option code.Input → Input
+told (Some i) = record { good = true; n = i.n; degree = i.degree; cells = i.cells; count = i.count }
+told None = no_input
 
 -- SCOPE 14.2: the first three numbers, and how many vectors follow
 unfoldable pub input_from : List ℕ → Input

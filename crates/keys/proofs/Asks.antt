@@ -11,7 +11,7 @@ use lib.Seq.{take_all}
 use Rattle.print.specs.Print.{Printed, printed, fitted}
 use Rattle.print.proofs.Pages.Fitting.{fitted_long}
 use Rattle.print.specs.Line.{newline}
-use Rattle.input.specs.declared.Input.{Input}
+use Rattle.input.specs.Input.{Input}
 use Rattle.input.specs.Input.{input_of}
 use Rattle.keys.specs.Keys.{max_asked, asked_as, asked_of}
 

@@ -3,7 +3,7 @@ use Prim.Native.Nat.{ℕ, suc, ◌+◌, ◌-◌, ◌≤◌, ◌<◌}
 use native.Mathlib.Omega.{arith}
 use native.Mathlib.Numerals.{add-one}
 use mathlib.Core.Path.{◌≡◌, refl, sym, ap, ap₂, ◌∙◌}
-use mathlib.Core.Bool.{Bool, true, false, false≢true, not, ◌&&◌, ◌||◌}
+use mathlib.Core.Bool.{Bool, true, false, not, ◌&&◌, ◌||◌}
 use mathlib.Core.List.{List, [], ◌∷◌, ◌++◌, append-nil, append_assoc, map}
 use borrow.Author.Tests.{ne_eqb, le-leb, lt-leb}
 use lib.Dec.{eqb}
@@ -14,11 +14,11 @@ use Rattle.print.specs.Line.{newline}
 use Rattle.input.specs.Input.{max_listed}
 use Rattle.find.specs.Keys.{line_length}
 use Rattle.find.proofs.Lines.{line_within}
-use Rattle.dated.specs.declared.Dated.{Dated}
+use Rattle.dated.specs.Dated.{Dated}
 use Rattle.dated.specs.Dated.{good_line, dated_of}
 use Rattle.dated.proofs.Lines.{dated_good}
 use Rattle.keys.specs.Keys.{lines_from, lines_in, good_lines}
-use Rattle.keys.specs.Inner.{ReadAs}
+use Rattle.keys.specs.Inner.{all_narrow, Words}
 
 -- the first line, and those after it
 pub line_first : (word text : List ℕ) → 0 < length word + length text
@@ -71,6 +71,19 @@ narrow l = not (dated_of l).wide
 abbrev word : List ℕ → ℕ
 word l = (dated_of l).word
 
+-- a field that is not over its width, and one that is
+pub or_none : (x : Bool) → x ≡ (x || false)
+or_none true = refl
+or_none false = refl
+
+pub or_all : (x : Bool) → true ≡ (x || true)
+or_all true = refl
+or_all false = refl
+
+lines_end : (bytes : List ℕ) (at : ℕ) → length bytes ≤ at → lines_from [] (drop at bytes) ≡ []
+unfolding lines_from
+lines_end bytes at h = ap (λ (l : List ℕ). lines_from [] l) (drop_of_length-le bytes h)
+
 -- ---- the lines read so far
 
 pub record Reading (bytes words : List ℕ) (wide : Bool) (count at : ℕ) : Type 0 where
@@ -113,21 +126,21 @@ module _ (bytes words : List ℕ) where
           (drop-drop (suc (line_length (drop at bytes))) at bytes ∙ ap (λ (j : ℕ). drop j bytes) n)
 
       module _ (d : Dated) (ed : d ≡ dated_of line) where
-        pub reading_bad : d.good ≡ false → false ≡ good_lines bytes
+        pub reading_bad : d.good ≡ false → good_lines bytes ≡ false
         unfolding good_lines
         reading_bad b =
             let g : good_line line ≡ false = sym (dated_good line) ∙ ap (λ (x : Dated). x.good) (sym ed) ∙ b in
             let e : every good_line (lines_in bytes) ≡ false = ap (every good_line) next ∙ one_bad good_line w.done (lines_from [] (drop (at + size + 1) bytes)) line g in
             rw (e, good_lines)
 
-        pub reading_many : length words ≤ count → false ≡ good_lines bytes
+        pub reading_many : length words ≤ count → good_lines bytes ≡ false
         unfolding good_lines
         reading_many m =
             let n : max_listed < length (lines_in bytes) =
             omega (arith, ap length next, length-append w.done (line ∷ lines_from [] (drop (at + size + 1) bytes)), w.number, w.size) in
             rw (lt-leb (length (lines_in bytes)) max_listed n, good_lines) (go (every good_line (lines_in bytes)))
           where
-            go : (a : Bool) → false ≡ (a && false)
+            go : (a : Bool) → (a && false) ≡ false
             go true = refl
             go false = refl
 
@@ -157,28 +170,26 @@ module _ (bytes words : List ℕ) where
             both true y = refl
             both false y = refl
 
-    pub reading_end : length bytes ≤ at → ReadAs bytes true wide count words
-    unfolding good_lines lines_from
-    reading_end h =
-        let all : lines_in bytes ≡ w.done = w.split ∙ ap (λ (l : List ℕ). w.done ++ lines_from [] l) (drop_of_length-le bytes h) ∙ append-nil w.done in
-        let e : every good_line (lines_in bytes) ≡ true = ap (every good_line) all ∙ w.good in
-        record {
-          size = w.size;
-          few = w.few;
-          is = rw (e, le-leb (length (lines_in bytes)) max_listed (omega (arith, ap length all, w.number, w.few)), good_lines);
-          number = λ _. sym (ap length all ∙ w.number);
-          narrow = λ _. w.narrows ∙ ap (every narrow) (sym all);
-          values = λ _. w.stored ∙ ap (map word) (sym all);
-        }
+    module _ (h : length bytes ≤ at) where
+      all : lines_in bytes ≡ w.done
+      unfolding lines_from
+      all = w.split ∙ ap (λ (l : List (List ℕ)). w.done ++ l) (lines_end bytes at h) ∙ append-nil w.done
 
--- nothing is read of lines that are not good
-pub read_not : (bytes words : List ℕ) → length words ≡ max_listed → false ≡ good_lines bytes → ReadAs bytes false false 0 words
-read_not bytes words s e =
-    record {
-      size = s;
-      few = omega arith;
-      is = e;
-      number = λ (p : false ≡ true). absurd (false≢true p);
-      narrow = λ (p : false ≡ true). absurd (false≢true p);
-      values = λ (p : false ≡ true). absurd (false≢true p);
-    }
+      is_good : good_lines bytes ≡ true
+      unfolding good_lines
+      is_good =
+          let e : every good_line (lines_in bytes) ≡ true = ap (every good_line) all ∙ w.good in
+          rw (e, le-leb (length (lines_in bytes)) max_listed (omega (arith, ap length all, w.number, w.few)), good_lines)
+
+      pub reading_wide : wide ≡ true → (good_lines bytes ≡ true) × (all_narrow bytes ≡ false)
+      reading_wide y = (is_good, ap (every narrow) all ∙ sym w.narrows ∙ ap not y)
+
+      pub reading_end : wide ≡ false → Words bytes count words
+      reading_end n =
+          record {
+            few = w.few;
+            good = is_good;
+            narrow = ap (every narrow) all ∙ sym w.narrows ∙ ap not n;
+            number = sym (ap length all ∙ w.number);
+            values = w.stored ∙ ap (map word) (sym all);
+          }

@@ -11,7 +11,7 @@ use lib.Seq.{take_all}
 use Rattle.lists.specs.Members.{every}
 use Rattle.lists.proofs.Tests.{and_true}
 use Rattle.record.specs.Tables.{lent}
-use Rattle.build.specs.declared.Built.{Built}
+use Rattle.build.specs.Built.{Built}
 use Rattle.build.specs.Build.{Outcome, after, build_chosen}
 use Rattle.build.proofs.Holding.Holds.{chosen_holds}
 use Rattle.print.specs.Print.{fitted, refused_text}
@@ -27,8 +27,7 @@ use Rattle.profiles.specs.Keys.{build_keys}
 use Rattle.profiles.proofs.Building.{keys_wide, keys_build}
 use Rattle.dated.specs.Dated.{good_line, key_in, dated_of}
 use Rattle.dated.proofs.Lines.{dated_wide, dated_word}
-use Rattle.keys.specs.declared.Asked.{Asked}
-use Rattle.keys.specs.Keys.{header, body, lines_in, good_lines, cells_by, lines_text, keys_text, asked_of, keys_of}
+use Rattle.keys.specs.Keys.{Asked, header, body, lines_in, good_lines, cells_by, lines_text, keys_text, asked_of, keys_of}
 
 abbrev narrow : List ℕ → Bool
 narrow l = not (dated_of l).wide

@@ -1,5 +1,5 @@
 -- A list of profile keys packed: what is written for lines of five numbers (SCOPE 21.10, 21.11).
-use Rattle.std.specs.Prelude.{ℕ, zero, suc, ◌*◌, Bool, true, false, ◌&&◌, List, [], ◌∷◌, ◌++◌, map, eqb, leb, ltb, length, drop}
+use Rattle.std.specs.Prelude.{ℕ, zero, suc, ◌*◌, Bool, true, false, ◌&&◌, List, [], ◌∷◌, ◌++◌, map, eqb, leb, ltb, length, drop, Option, Some, None}
 use Rattle.lists.specs.Members.{every}
 use Rattle.input.specs.Opens.{opens}
 use Rattle.input.specs.Input.{max_text, max_listed, input_of}
@@ -10,7 +10,7 @@ use Rattle.answer.specs.Answer.{input_text}
 use Rattle.pack.specs.Pack.{packed}
 use Rattle.profiles.specs.Keys.{build_keys}
 use Rattle.dated.specs.Dated.{good_line, key_in}
-use Rattle.keys.specs.declared.Asked.{Asked}
+use Rattle.keys.specs.declared.Asked as code
 
 -- the line that may stand first
 abbrev pub header : List ℕ
@@ -72,6 +72,17 @@ keys_text degree cells text = elim (leb (length text) max_text) [ true ↦ lines
 -- the bytes of the longest words
 abbrev pub max_asked : ℕ
 max_asked = 62
+
+-- degree and cells as the words ask for them; both 0 where they are not good
+pub record Asked : Type 0 where
+  pub good : Bool
+  pub degree : ℕ
+  pub cells : ℕ
+
+-- what was read of the words
+abbrev pub told : Option code.Asked → Asked
+told (Some a) = record { good = true; degree = a.degree; cells = a.cells }
+told None = record { good = false; degree = 0; cells = 0 }
 
 -- degree and cells, read as those of a list whose n is 0
 unfoldable pub asked_as : List ℕ → Asked

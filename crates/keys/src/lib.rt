@@ -1,71 +1,62 @@
 // A list of profile keys packed: lines of five numbers in, the file of their unit out.
 #![tactic(auto)]
 
-ghost use Rattle.std.specs.Prelude.{◌≡◌, ◌||◌, ◌∷◌, ◌+◌, ◌≤◌, length};
+ghost use Rattle.std.specs.Prelude.{◌≡◌, ◌∷◌, ◌+◌, ◌≤◌, length};
 ghost use Rattle.print.specs.Line.{newline};
 ghost use Rattle.input.specs.Input.{max_text, max_listed};
 ghost use Rattle.print.specs.Print.{printed, fitted};
-ghost use Rattle.keys.specs.Keys.{cells_for, cells_by, lines_text, keys_text, asked_of, keys_of};
+ghost use Rattle.keys.specs.Keys.{told, cells_for, cells_by, lines_text, keys_text, asked_of, keys_of};
 ghost use Rattle.keys.specs.Inner.{ReadAs};
 
 use answer::AUX_WORDS;
+use dated::NoWord;
 use input::{MAX_LISTED, MAX_TEXT};
+use refusal::Refusal;
 use vectors::{MAX_CELLS, MAX_ROWS};
 
 // The bits of a packed key.
 const KEY_BITS: usize = 56;
 
-// How many keys were read, whether all lines are keys, and whether a field is over its width.
-#[derive(Clone, Copy)]
-struct Said {
-    good: bool,
-    wide: bool,
-    count: usize,
+// Why lines are not packed.
+#[derive(Clone, Copy, Debug, PartialEq, Eq)]
+enum NoKeys {
+    // A line is no key, or the lines are too many.
+    NoList,
+    // All lines are keys, and a field is over its width.
+    Wide,
 }
 
-const NOT_READ: Said = Said {
-    good: false,
-    wide: false,
-    count: 0,
-};
-
-fn either(a: bool, b: bool) -> bool
-    ensures { result ≡ a || b }
-{
-    if a {
-        return true;
-    }
-    b
-}
-
-// Writes the words of the keys of a text into as many words as a list may have vectors.
-fn read(text: &[u8], words: &mut [u64]) -> Said
+// Writes the words of the keys of a text into as many words as a list may have vectors, and says how many there are.
+fn read(text: &[u8], words: &mut [u64]) -> Result<usize, NoKeys>
     requires { (length words.old ≡ max_listed) × (length text.now ≤ max_text) }
-    ensures { ReadAs text.now result.good result.wide result.count words.new }
+    ensures { ReadAs text.now result words.new }
 {
     let mut wide = false;
     let mut count = 0;
     let mut at = 0;
+    // A while: the step is the length of the line.
     while at < text.len() {
         let size = find::line_length(&text[at..]);
         let end = at + size;
-        let key = dated::read(&text[at..end]);
-        if !key.good {
-            return NOT_READ;
-        }
+        let word = match dated::read(&text[at..end]) {
+            Ok(word) => word,
+            Err(NoWord::Wide) => {
+                wide = true;
+                0
+            }
+            Err(NoWord::NoKey) => return Err(NoKeys::NoList),
+        };
         if words.len() <= count {
-            return NOT_READ;
+            return Err(NoKeys::NoList);
         }
-        words[count] = key.word;
-        wide = either(wide, key.wide);
+        words[count] = word;
         count += 1;
         at = end + 1;
     }
-    Said {
-        good: true,
-        wide,
-        count,
+    if wide {
+        return Err(NoKeys::Wide);
     }
+    Ok(count)
 }
 
 // The least power of two that is at least twice as many as the keys.
@@ -74,6 +65,7 @@ fn cells_for(k: usize) -> usize
     ensures { result ≡ cells_for k }
 {
     let mut cells = 1;
+    // A while: the cells are doubled, and nothing is counted.
     while cells < 2 * k {
         cells *= 2;
     }
@@ -91,26 +83,17 @@ fn cells_by(cells: usize, k: usize) -> usize
     cells
 }
 
-fn room() -> [u64; MAX_LISTED]
-    ensures { length result ≡ max_listed }
-{
-    [0; MAX_LISTED]
-}
-
 // Builds the unit of the keys that lines have, and writes its file.
 fn pack_lines(degree: usize, cells: usize, lines: &[u8], out: &mut [u8]) -> usize
     requires { length lines.now ≤ max_text }
     ensures { printed result out.new ≡ fitted (lines_text degree cells lines.now) out.old }
 {
-    let mut words = room();
-    let said = read(lines, &mut words);
-    if !said.good {
-        return print::text(b"input\n", out);
-    }
-    if said.wide {
-        return print::refused(30, 0, out);
-    }
-    let count = said.count;
+    let mut words = [0u64; MAX_LISTED];
+    let count = match read(lines, &mut words) {
+        Ok(count) => count,
+        Err(NoKeys::NoList) => return print::text(b"input\n", out),
+        Err(NoKeys::Wide) => return print::refused(Refusal::Width.at(0), out),
+    };
     let mut h = [0u16; MAX_ROWS];
     let mut g = [0u16; MAX_CELLS];
     let mut aux = [0u64; AUX_WORDS];
@@ -143,27 +126,14 @@ fn pack_text(degree: usize, cells: usize, text: &[u8], out: &mut [u8]) -> usize
 
 // ---- the words of the call
 
-// Degree and cells as the words ask for them; both 0 where they are not good.
+// Degree and cells as the words ask for them.
 #[derive(Clone, Copy)]
 struct Asked {
-    good: bool,
     degree: usize,
     cells: usize,
 }
 
-const NOT_ASKED: Asked = Asked {
-    good: false,
-    degree: 0,
-    cells: 0,
-};
-
 const MAX_ASKED: usize = 62;
-
-fn line() -> [u8; 64]
-    ensures { 64 ≡ length result }
-{
-    [0; 64]
-}
 
 // Writes the words behind a number 0.
 fn behind_zero(words: &[u8], out: &mut [u8])
@@ -175,29 +145,27 @@ fn behind_zero(words: &[u8], out: &mut [u8])
     print::text(words, &mut out[2..]);
 }
 
-fn ask(words: &[u8]) -> Asked
-    ensures { result ≡ asked_of words.now }
+fn ask(words: &[u8]) -> Option<Asked>
+    ensures { told result ≡ asked_of words.now }
 {
     let size = words.len();
     if size == 0 {
-        return Asked {
-            good: true,
+        return Some(Asked {
             degree: 2,
             cells: 0,
-        };
+        });
     }
     if MAX_ASKED < size {
-        return NOT_ASKED;
+        return None;
     }
-    let mut text = line();
+    let mut text = [0u8; MAX_ASKED + 2];
     behind_zero(words, &mut text[..size + 2]);
-    let mut none = [0u64; 1];
-    let numbers = input::read(&text[..size + 2], &mut none[..0]);
-    Asked {
-        good: numbers.good,
+    let mut none = [0u64; 0];
+    let numbers = input::read(&text[..size + 2], &mut none)?;
+    Some(Asked {
         degree: numbers.degree,
         cells: numbers.cells,
-    }
+    })
 }
 
 // Does what the words after `keys` ask for, each of them a line: answers how many bytes are written; 0, and nothing is written, where they do not
@@ -205,9 +173,8 @@ fn ask(words: &[u8]) -> Asked
 pub fn keys(words: &[u8], text: &[u8], out: &mut [u8]) -> usize
     ensures { printed result out.new ≡ fitted (keys_of words.now text.now) out.old }
 {
-    let a = ask(words);
-    if !a.good {
+    let Some(asked) = ask(words) else {
         return print::text(b"input\n", out);
-    }
-    pack_text(a.degree, a.cells, text, out)
+    };
+    pack_text(asked.degree, asked.cells, text, out)
 }

@@ -6,7 +6,7 @@ ghost use Rattle.record.specs.Tables.{lent};
 ghost use Rattle.print.specs.Print.{printed, fitted};
 ghost use Rattle.listing.specs.Listing.{list_text};
 
-use unit::Record;
+use unit::{Record, Refusal};
 use vectors::MAX_WORDS;
 
 // Prints n and the vectors that a unit holds, a line each, or refusal 14 where it is not well formed or a number is refused: answers how many
@@ -16,7 +16,7 @@ pub fn list(unit: Record, h: &[u16], g: &[u16], aux: &[u64], out: &mut [u8]) -> 
 {
     let mut words = [0u64; MAX_WORDS];
     if !recover::recover_all(unit, h, g, aux, &mut words) {
-        return print::refused(14, 0, out);
+        return print::refused(Refusal::NoUnit.at(0), out);
     }
     words[0] = unit.n as u64;
     let last = unit.k + 1;

@@ -3,3 +3,4 @@ pub mod Firsts
 pub mod Repeats
 pub mod NonePass
 pub mod Equals
+pub mod Places

@@ -1,11 +1,10 @@
 -- What a test with && or || says, and tests of numbers. Assumes nothing.
-use Prim.Native.Nat.{ℕ, suc, ◌≤◌, ◌<◌}
-use native.Mathlib.Omega.{arith}
+use Prim.Native.Nat.{ℕ, ◌≤◌, ◌<◌}
 use mathlib.Core.Path.{◌≡◌, refl, sym}
-use mathlib.Core.Bool.{Bool, true, false, not, ◌&&◌, ◌||◌, true≢false, false≢true}
+use mathlib.Core.Bool.{Bool, true, false, ◌&&◌, ◌||◌, true≢false, false≢true}
 use mathlib.Core.Logic.{◌⊎◌, inl, inr}
-use lib.Dec.{eqb, leb, ltb}
-use borrow.Author.Tests.{eqb-true, eqb-false, eq-eqb, ne_eqb, leb-true, leb-false, lt-ltb, le-ltb}
+use lib.Dec.{eqb, leb}
+use borrow.Author.Tests.{eqb-true, eqb-false, eq-eqb, ne_eqb, leb-true, leb-false}
 
 pub and_true : (a b : Bool) → (a && b) ≡ true → (a ≡ true) × (b ≡ true)
 and_true true b h = (refl, h)
@@ -55,17 +54,3 @@ eqb_iff {a} {b} {c} {d} f g = go (eqb a b) refl
     go : (t : Bool) → eqb a b ≡ t → t ≡ eqb c d
     go true e = sym (eq-eqb c d (f (eqb-true a b e)))
     go false e = sym (ne_eqb c d (λ p. eqb-false a b e (g p)))
-
-pub leb_ltb : (a b : ℕ) → leb a b ≡ ltb a (suc b)
-leb_ltb a b = go (leb a b) refl
-  where
-    go : (t : Bool) → leb a b ≡ t → t ≡ ltb a (suc b)
-    go true e = sym (lt-ltb a (suc b) (omega (arith, leb-true a b e)))
-    go false e = sym (le-ltb a (suc b) (omega (arith, leb-false a b e)))
-
-pub not_leb : (a b : ℕ) → not (leb a b) ≡ ltb b a
-not_leb a b = go (leb a b) refl
-  where
-    go : (t : Bool) → leb a b ≡ t → not t ≡ ltb b a
-    go true e = sym (le-ltb b a (leb-true a b e))
-    go false e = sym (lt-ltb b a (leb-false a b e))

@@ -1,5 +1,5 @@
 -- The first of a list, or of the numbers, that passes a test.
-use Rattle.std.specs.Prelude.{ℕ, zero, suc, Bool, true, false, ◌||◌, List, [], ◌∷◌, eqb}
+use Rattle.std.specs.Prelude.{ℕ, zero, suc, Option, None, Some, Bool, true, false, ◌||◌, List, [], ◌∷◌, eqb}
 
 -- whether x is in the list
 unfoldable pub has : ℕ → List ℕ → Bool
@@ -15,6 +15,11 @@ first_in test before (x ∷ xs) i = elim (test before x) [ true ↦ i | false �
 unfoldable pub first_of : {A : Type 0} → (List A → A → Bool) → List A → ℕ
 unfolding first_in
 first_of test xs = first_in test [] xs 1
+
+-- a place counted from 0 as a number counted from 1; 0 where there is none
+abbrev pub place_number : Option ℕ → ℕ
+place_number None = 0
+place_number (Some i) = suc i
 
 -- the first entry that equals an earlier one
 unfoldable pub repeated : List ℕ → ℕ

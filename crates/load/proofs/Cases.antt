@@ -1,22 +1,15 @@
 -- What `read` leaves in each case. Assumes nothing.
-use mathlib.Core.Path.{◌≡◌, refl, sym, ap, ap₂, ◌∙◌}
+use mathlib.Core.Path.{◌≡◌, refl, sym, ap₂, ◌∙◌}
 use mathlib.Core.Bool.{Bool, true, false}
 use mathlib.Core.List.{List}
 use Prim.Native.Nat.{ℕ, ◌/◌, ◌%◌}
 use lib.ListN.{length}
 use borrow.Author.Tests.{eq-eqb, ne_eqb}
-use Rattle.record.specs.Record.{blank_record}
 use Rattle.record.specs.Tables.{Tables}
 use Rattle.record.specs.Formed.{long_enough}
 use Rattle.block.specs.Block.{block_size}
 use Rattle.file.specs.Decode.{record_in, tables_in}
 use Rattle.file.specs.Read.{Reading, no_blocks, right_checks, is_file, refused_read, loaded_read, read_of}
-use Rattle.load.specs.declared.Loaded.{Loaded}
-use Rattle.load.specs.Load.{after}
-
--- a refusal that the code answers
-pub refused_after : (r : Loaded) (number : ℕ) (t : Tables) → r ≡ record { refusal = number; place = 0; unit = blank_record } → after r t ≡ refused_read number t
-refused_after r number t e = ap (λ (x : Loaded). after x t) e
 
 module _ (file : List ℕ) (t : Tables) where
   -- by the four tests
@@ -38,11 +31,8 @@ module _ (file : List ℕ) (t : Tables) where
   read_by a b c d ea eb ec ed =
       sym (read_is ∙ ap₂ (λ (x y : Bool). reading x y (is_file file) (long_enough (record_in file) t)) ea eb ∙ ap₂ (reading a b) ec ed)
 
-  pub read_empty : length file ≡ 0 → refused_read 21 t ≡ read_of file t
-  read_empty e = read_by true _ _ _ (rw (eq-eqb _ _ e)) refl refl refl
-
-  pub read_broken : (length file ≡ 0 → ⊥) → (length file % block_size ≡ 0 → ⊥) → refused_read 21 t ≡ read_of file t
-  read_broken h e = read_by true _ _ _ (rw (ne_eqb _ _ h, ne_eqb _ _ e)) refl refl refl
+  pub read_none : no_blocks file ≡ true → refused_read 21 t ≡ read_of file t
+  read_none e = read_by true _ _ _ e refl refl refl
 
   module _ (some : length file ≡ 0 → ⊥) (whole : length file % block_size ≡ 0) where
     blocks : no_blocks file ≡ false

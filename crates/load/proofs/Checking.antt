@@ -1,51 +1,64 @@
 -- Blocks tested one after the other. Assumes nothing.
 use mathlib.Core.Path.{◌≡◌, refl, sym, ap, ap₂, ◌∙◌}
 use mathlib.Core.Bool.{Bool, true, false, ◌&&◌}
-use mathlib.Core.List.{List}
-use Prim.Native.Nat.{ℕ, suc, ◌+◌, ◌-◌, ◌*◌, ◌/◌, ◌%◌, ◌≤◌, ◌<◌, min}
+use mathlib.Core.List.{List, [], ◌∷◌, ◌++◌}
+use Prim.Native.Nat.{ℕ, zero, suc, ◌+◌, ◌-◌, ◌*◌, ◌/◌, ◌≤◌, ◌<◌, min}
 use native.Mathlib.Numerals.{add-one}
 use native.Mathlib.Omega.{arith}
-use lib.ListN.{length, take, drop}
-use lib.Seq.{drop-drop}
+use native.Mathlib.Nat.{add-div_right, div-eq_of_lt}
+use lib.ListN.{length, take, drop, length-append}
+use lib.Seq.{take_at, drop_at}
+use denote.Ref.{Bor}
+use Rattle.std.specs.Prelude.{None, Some}
+use Rattle.std.specs.declared.slice.ChunksExact.{ChunksExact}
+use Rattle.std.specs.List.{list_all}
+use Rattle.std.specs.Slice.Iter.{chunks_exact_rest, chunks_exact_size, chunks_exact_steps}
+use Rattle.std.proofs.lemmas.Iterator.{YieldsList}
+use Rattle.std.proofs.lemmas.Iterator.Splits.{YieldsList-from_shown_while}
 use Rattle.block.specs.Block.{block_size, payload_at, right_check}
 use Rattle.file.specs.Read.{right_checks}
 use Rattle.block.specs.Look.{laid_out}
 use Rattle.file.specs.File.{opening}
-use Rattle.load.specs.Inner.Whole.{Whole}
 use Rattle.load.specs.Inner.Laid.{payload_size, table_laid}
 
--- at a place: what is left to test decides
-pub record Checking (file : List ℕ) (at : ℕ) : Type 0 where
-  pub within : at ≤ length file
-  pub whole : at % block_size ≡ 0
-  pub left : right_checks (length file / block_size) file ≡ right_checks ((length file - at) / block_size) (drop at file)
+-- ---- the chunks of a file
 
-pub checking_none : (file : List ℕ) → Checking file 0
-checking_none file = let e : length file - 0 ≡ length file = omega arith in record { within = omega arith; whole = refl; left = rw e }
+-- so many blocks of n bytes
+pub blocks : (count n : ℕ) → List ℕ → List (List ℕ)
+blocks zero n l = []
+blocks (suc count) n l = take n l ∷ blocks count n (drop n l)
 
-module _ (file : List ℕ) (at : ℕ) (w : Whole file) (h : at < length file) (y : Checking file at) where
-  room : at + block_size ≤ length file
-  room = omega (arith, w.whole, y.whole)
+length_blocks : (count n : ℕ) (l : List ℕ) → length (blocks count n l) ≡ count
+unfolding blocks
+length_blocks zero n l = refl
+length_blocks (suc count) n l = ap suc (length_blocks count n (drop n l))
 
-  step : right_checks (length file / block_size) file ≡ (right_check (take block_size (drop at file)) && right_checks ((length file - (at + block_size)) / block_size) (drop (at + block_size) file))
-  unfolding right_checks
-  step =
-      let e : (length file - at) / block_size ≡ suc ((length file - (at + block_size)) / block_size) = omega (arith, room) in
-      y.left ∙ ap (λ (m : ℕ). right_checks m (drop at file)) e
-      ∙ ap (λ (l : List ℕ). right_check (take block_size (drop at file)) && right_checks ((length file - (at + block_size)) / block_size) l) (drop-drop block_size at file)
+-- what an iterator over chunks has left
+left : ChunksExact ℕ → List (List ℕ)
+left s = blocks (length (chunks_exact_rest s) / chunks_exact_size s) (chunks_exact_size s) (chunks_exact_rest s)
 
-  pub block_room : at + block_size ≤ length file
-  block_room = room
+left_none : (s t : ChunksExact ℕ) → 0 < chunks_exact_size s → chunks_exact_steps s None t → length (left s) ≡ 0
+unfolding left
+left_none s t h e = length_blocks _ _ _ ∙ div-eq_of_lt e.1.0
 
-  pub checking_more : right_check (take block_size (drop at file)) ≡ true → Checking file (at + block_size)
-  checking_more r = record { within = room; whole = omega (arith, y.whole); left = step ∙ ap (λ (b : Bool). b && right_checks ((length file - (at + block_size)) / block_size) (drop (at + block_size) file)) r }
+left_some : (s : ChunksExact ℕ) (x : Bor (List ℕ)) (t : ChunksExact ℕ) → 0 < chunks_exact_size s → chunks_exact_steps s (Some x) t → (0 < chunks_exact_size t) × (left s ≡ x.now ∷ left t)
+unfolding left blocks
+left_some s x t h e =
+    let n : ℕ = chunks_exact_size s in
+    let r : List ℕ = chunks_exact_rest t in
+    let l : length (x.now ++ r) ≡ length r + n = length-append x.now r ∙ omega (arith, e.1.1) in
+    let q : length (x.now ++ r) / n ≡ suc (length r / n) = ap (λ (m : ℕ). m / n) l ∙ add-div_right (length r) h ∙ add-one (length r / n) in
+    let k : length x.now ≡ n = e.1.1 in
+    (rw e.0 h, rw (e.1.0, q, e.0) (ap₂ (λ (a b : List ℕ). a ∷ blocks (length r / n) n b) (take_at x.now r n k) (drop_at x.now r n k)))
 
-  pub checking_no : right_check (take block_size (drop at file)) ≡ false → right_checks (length file / block_size) file ≡ false
-  checking_no r = step ∙ ap (λ (b : Bool). b && right_checks ((length file - (at + block_size)) / block_size) (drop (at + block_size) file)) r
+pub chunks_yielded : (s : ChunksExact ℕ) (file : List ℕ) (n : ℕ) → 0 < n → chunks_exact_rest s ≡ file → chunks_exact_size s ≡ n → YieldsList chunks_exact_steps (λ x. x.now) s (blocks (length file / n) n file)
+unfolding left
+chunks_yielded s file n h e f = rw (← e, ← f) (YieldsList-from_shown_while chunks_exact_steps (λ (x : Bor (List ℕ)). x.now) left (λ s. 0 < chunks_exact_size s) left_none left_some s (rw f h))
 
-pub checking_end : (file : List ℕ) (at : ℕ) → length file ≤ at → Checking file at → right_checks (length file / block_size) file ≡ true
-unfolding right_checks
-checking_end file at h y = let e : (length file - at) / block_size ≡ 0 = let z : length file - at ≡ 0 = omega arith in rw z in y.left ∙ rw e
+pub all_right : (count : ℕ) (file : List ℕ) → list_all right_check (blocks count block_size file) ≡ right_checks count file
+unfolding blocks right_checks
+all_right zero file = refl
+all_right (suc count) file = ap (λ (b : Bool). right_check (take block_size file) && b) (all_right count (drop block_size file))
 
 -- ---- the blocks of a table
 

@@ -2,11 +2,14 @@
 use mathlib.Core.Path.{◌≡◌, refl, sym, ap, ap₂, ◌∙◌}
 use mathlib.Core.Bool.{true}
 use mathlib.Core.Logic.{⊎_elim}
-use mathlib.Core.List.{List, [], ◌∷◌, ◌++◌, append_assoc, append-nil}
+use mathlib.Core.List.{List, [], ◌∷◌, ◌++◌, append_assoc, append-nil, map, map-append}
 use Prim.Native.Nat.{ℕ, zero, suc, ◌+◌, ◌-◌, ◌*◌, ◌/◌, ◌≤◌, ◌<◌, min}
 use native.Mathlib.Nat.{add-div_right, div-eq_of_lt, mul-add, mul-le-mul_left}
 use native.Mathlib.Numerals.{add-one}
 use native.Mathlib.Omega.{arith}
+use Rattle.std.proofs.lemmas.Grind.{common_steps}
+use Rattle.std.specs.Int.{div_ceil}
+use Rattle.lists.proofs.Entries.Members.{map_take, map_drop}
 use lib.Dec.{eqb}
 use lib.ListN.{length, take, drop, length-drop, drop_of_length-le}
 use lib.Seq.{sets, sets-eq, length-sets, length-take-le, take_all, take-take, take-nil, drop-drop}
@@ -22,6 +25,23 @@ use Rattle.block.proofs.Laying.Words.{front}
 use Rattle.file.specs.File.{blocks_for}
 use Rattle.file.specs.Decode.{table_from, table_in}
 use Rattle.file.proofs.Loading.Again.{length_table_in}
+
+-- ---- how many blocks words take
+
+pub ceil_is : (words per : ℕ) → 1 ≤ per → div_ceil words per ≡ blocks_for per words
+ceil_is words per h = grind (arith, common_steps)
+
+pub words_left : (per words i : ℕ) → 1 ≤ per → i < blocks_for per words → per * i < words
+words_left per words i h k =
+    let m : per * (i + 1) ≤ per * blocks_for per words = mul-le-mul_left per (omega arith) in
+    let d : per * blocks_for per words ≤ words + (per - 1) = omega arith in
+    omega (arith, mul-add per i 1)
+
+pub words_done : (per words i : ℕ) → 1 ≤ per → blocks_for per words ≤ i → words ≤ per * i
+words_done per words i h k =
+    let m : per * blocks_for per words ≤ per * i = mul-le-mul_left per k in
+    let d : words + (per - 1) < per * blocks_for per words + per = omega arith in
+    omega arith
 
 -- ---- a table's first block and the rest
 
@@ -119,6 +139,13 @@ block_filled size per file words ys at i fit room low e =
     ∙ ap (λ (x : List ℕ). take i words ++ x) (append-nil (a ++ drop (length a) l) ∙ ap (λ (x : List ℕ). a ++ x) (drop-drop (length a) i words))
     ∙ sym (append_assoc (take i words) a (drop (i + length a) words))
     ∙ sym (sets-eq a words i (omega arith))
+
+-- the same of words that are numbers by f
+pub mapped_put : {A : Type 0} (f : A → ℕ) (words ys : List A) (i k : ℕ) → map f (put_mid i k words ys) ≡ put_mid i k (map f words) (map f ys)
+mapped_put f words ys i k =
+    map-append f (take i words) (ys ++ drop k (drop i words))
+    ∙ ap₂ (λ (x y : List ℕ). x ++ y) (map_take f i words)
+    (map-append f ys (drop k (drop i words)) ∙ ap (λ (x : List ℕ). map f ys ++ x) (map_drop f k (drop i words) ∙ ap (drop k) (map_drop f i words)))
 
 pub filling_more : (size per first : ℕ) (file before words words' : List ℕ) (number i : ℕ) → 1 ≤ per → i < length before
     → words' ≡ sets words i (words_at size (min per (length words - i)) (drop (block_size * number + payload_at) file)) → Filling size per first file before words number i

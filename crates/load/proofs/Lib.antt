@@ -1,6 +1,5 @@
 pub mod Testing
 pub mod Filling
 pub mod Checking
-pub mod Lettering
 pub mod Cases
 pub mod Naming

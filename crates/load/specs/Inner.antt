@@ -1,4 +1,3 @@
 -- What only inner contracts cite.
 pub mod Said
-pub mod Whole
 pub mod Laid

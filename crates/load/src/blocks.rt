@@ -1,111 +1,42 @@
 // The blocks of a file tested.
-ghost use Rattle.std.specs.Prelude.{◌≡◌, true, ◌-◌, ◌*◌, ◌/◌, ◌≤◌, length};
+ghost use Rattle.std.specs.Prelude.{◌≡◌, ℕ, ◌<◌, slice_index, true, ◌-◌, ◌*◌, ◌/◌, ◌%◌, ◌≤◌, length, MatchOption};
 ghost use Rattle.vectors.specs.Bounds.{max_variables};
 ghost use Rattle.record.specs.Formed.{is_in_bounds};
 ghost use Rattle.block.specs.Block.{block_size};
 ghost use Rattle.file.specs.File.{rows_in, words_in};
+ghost use Rattle.file.specs.Kinds.{byte_of};
 ghost use Rattle.file.specs.Plan.{plan_of};
-ghost use Rattle.file.specs.Read.{right_checks, is_file};
+ghost use Rattle.file.specs.Read.{no_blocks, right_checks, is_file};
 ghost use Rattle.load.specs.Inner.Said.{said_in};
-ghost use Rattle.load.specs.Inner.Laid.{table_laid, has_letters, head_laid};
-ghost use Rattle.load.specs.Inner.Whole.{Whole};
+ghost use Rattle.load.specs.Inner.Laid.{table_laid, has_letters, head_laid, laid_by};
 
-use block::{CHECK_AT, Opening, PAYLOAD_AT, SIZE};
+use block::{CHECK_AT, PAYLOAD_AT, SIZE};
 use file::layout;
-use file::layout::Starts;
+use file::layout::{
+    BlockKind, FREE_AT, H_FIRST, LETTERS, LETTERS_AT, MARK_AT, Starts, VARIABLES_AT,
+};
 use record::Record;
 
-// Whether every block ends in its check.
-pub(crate) fn right_checks(file: &[u8]) -> bool
-    requires { Whole file.now }
-    ensures { result ≡ right_checks (length file.now / block_size) file.now }
-{
-    let mut at = 0;
-    while at < file.len() {
-        let next = at + SIZE;
-        if !block::right(&file[at..next]) {
-            return false;
-        }
-        at = next;
-    }
-    true
+// Bytes that are one block or more, and nothing behind the last.
+#[derive(Clone, Copy)]
+pub(crate) struct Blocks<'a> {
+    pub(crate) bytes: &'a [u8],
+    ghost some: { block_size ≤ length bytes.now },
+    ghost whole: { length bytes.now % block_size ≡ 0 },
+    ghost low: { (i : ℕ) → slice_index bytes.now i < 256 },
 }
 
 // The blocks of a table: their kind, the first number and the one past the last, and the bytes of its words.
 #[derive(Clone, Copy)]
 struct Part {
-    kind: u8,
+    kind: BlockKind,
     first: usize,
     past: usize,
     bytes: usize,
 }
 
-// Whether each block of a table has its opening, and no byte past the words but 0.
-fn table_laid(part: Part, file: &[u8]) -> bool
-    requires { (part.first ≤ part.past) × (block_size * part.past ≤ length file.now) }
-    ensures { result ≡ table_laid (part.past - part.first) part.kind part.first part.bytes file.now }
-{
-    let kind = part.kind;
-    let past = part.past;
-    let mut number = part.first;
-    let mut left = part.bytes;
-    while number < past {
-        let at = SIZE * number;
-        let used = lists::least(CHECK_AT - PAYLOAD_AT, left);
-        let opening = Opening {
-            kind,
-            version: layout::VERSION,
-            number,
-        };
-        if !block::laid(opening, PAYLOAD_AT + used, &file[at..at + SIZE]) {
-            return false;
-        }
-        number += 1;
-        left -= used;
-    }
-    true
-}
-
-// Whether the four letters stand in the head.
-fn has_letters(file: &[u8]) -> bool
-    requires { block_size ≤ length file.now }
-    ensures { result ≡ has_letters file.now }
-{
-    if file[layout::LETTERS_AT] != layout::LETTERS[0] {
-        return false;
-    }
-    if file[layout::LETTERS_AT + 1] != layout::LETTERS[1] {
-        return false;
-    }
-    if file[layout::LETTERS_AT + 2] != layout::LETTERS[2] {
-        return false;
-    }
-    file[layout::LETTERS_AT + 3] == layout::LETTERS[3]
-}
-
-// Whether the first block is a head with the letters and a mark, and has no other byte past p variables but 0.
-fn head_laid(p: usize, file: &[u8]) -> bool
-    requires { (p ≤ max_variables) × (block_size ≤ length file.now) }
-    ensures { result ≡ head_laid p file.now }
-{
-    let opening = Opening {
-        kind: layout::HEAD,
-        version: layout::VERSION,
-        number: 0,
-    };
-    if !block::laid(opening, layout::FREE_AT, &file[..SIZE]) {
-        return false;
-    }
-    if !has_letters(file) {
-        return false;
-    }
-    if !block::blank(&file[..layout::MARK_AT], layout::VARIABLES_AT + 2 * p) {
-        return false;
-    }
-    file[layout::MARK_AT] <= 1
-}
-
-// Where the tables of a unit lie.
+// Where the tables of a unit lie. That a record is in bounds is no ghost field: the record is what read answers, and only between the test
+// and the answer is it asked, here and of the two that call this.
 pub(crate) fn plan(unit: Record) -> Starts
     requires { is_in_bounds unit ≡ true }
     ensures { result ≡ plan_of (rows_in unit) unit.cells (words_in unit) }
@@ -115,46 +46,99 @@ pub(crate) fn plan(unit: Record) -> Starts
     layout::plan(rows as u16, unit.cells as u16, words as u16)
 }
 
-// Whether the bytes are those of a unit's file: unit is what the head says, and every check is right.
-pub(crate) fn is_file(unit: Record, file: &[u8]) -> bool
-    requires unit_value { unit ≡ said_in file.now }
-    requires whole { Whole file.now }
-    requires file_value { right_checks (length file.now / block_size) file.now ≡ true }
-    ensures { result ≡ is_file file.now }
-{
-    if !record::right(unit) {
-        return false;
+impl<'a> Blocks<'a> {
+    // The bytes as blocks; None where there is none of them or no whole number.
+    pub(crate) fn of(bytes: &'a [u8]) -> Option<Blocks<'a>>
+        ensures { MatchOption result (no_blocks bytes.now ≡ true) (λ b. b.bytes.now ≡ bytes.now) }
+    {
+        if bytes.is_empty() || bytes.len() % SIZE != 0 {
+            return None;
+        }
+        Some(Blocks { bytes })
     }
-    let starts = plan(unit);
-    if file.len() != SIZE * starts.past {
-        return false;
+
+    // Whether every block ends in its check.
+    pub(crate) fn right_checks(self) -> bool
+        ensures { result ≡ right_checks (length self.entry.bytes.now / block_size) self.entry.bytes.now }
+    {
+        self.bytes.chunks_exact(SIZE).all(|b| block::right(b))
     }
-    if !head_laid(unit.p, file) {
-        return false;
+
+    // Whether each block of a table has its opening, and no byte past the words but 0.
+    fn table_laid(self, part: Part) -> bool
+        requires { (part.first ≤ part.past) × (block_size * part.past ≤ length self.bytes.now) }
+        ensures { result ≡ table_laid (part.past - part.first) (byte_of part.kind) part.first part.bytes self.entry.bytes.now }
+    {
+        let mut left = part.bytes;
+        for number in part.first..part.past {
+            let at = SIZE * number;
+            let used = (CHECK_AT - PAYLOAD_AT).min(left);
+            let opening = layout::opening(part.kind, number);
+            if !block::laid(opening, PAYLOAD_AT + used, &self.bytes[at..at + SIZE]) {
+                return false;
+            }
+            left -= used;
+        }
+        true
     }
-    let h = Part {
-        kind: layout::H,
-        first: layout::H_FIRST,
-        past: starts.g,
-        bytes: 2usize << unit.n1,
-    };
-    if !table_laid(h, file) {
-        return false;
+
+    // Whether the four letters stand in the head.
+    fn has_letters(self) -> bool
+        ensures { result ≡ has_letters self.entry.bytes.now }
+    {
+        self.bytes[LETTERS_AT..].starts_with(&LETTERS)
     }
-    let g = Part {
-        kind: layout::G,
-        first: starts.g,
-        past: starts.aux,
-        bytes: 2 * unit.cells,
-    };
-    if !table_laid(g, file) {
-        return false;
+
+    // Whether the first block is a head with the letters and a mark, and has no other byte past p variables but 0.
+    #[tactic(auto, unfolding(crate::specs::Inner::Laid::head_laid))]
+    fn head_laid(self, p: usize) -> bool
+        requires { p ≤ max_variables }
+        ensures { result ≡ head_laid p self.entry.bytes.now }
+    {
+        let head = layout::opening(BlockKind::Head, 0);
+        block::laid(head, FREE_AT, &self.bytes[..SIZE])
+            && self.has_letters()
+            && block::blank(&self.bytes[..MARK_AT], VARIABLES_AT + 2 * p)
+            && self.bytes[MARK_AT] <= 1
     }
-    let aux = Part {
-        kind: layout::AUX,
-        first: starts.aux,
-        past: starts.past,
-        bytes: 8 * (unit.k + 1),
-    };
-    table_laid(aux, file)
+
+    // Whether the blocks are those of the record's tables behind its head, each laid out as it should be.
+    fn laid_by(self, unit: Record) -> bool
+        requires { is_in_bounds unit ≡ true }
+        ensures { result ≡ laid_by unit self.entry.bytes.now }
+    {
+        let starts = plan(unit);
+        let h = Part {
+            kind: BlockKind::H,
+            first: H_FIRST,
+            past: starts.g,
+            bytes: 2usize << unit.n1,
+        };
+        let g = Part {
+            kind: BlockKind::G,
+            first: starts.g,
+            past: starts.aux,
+            bytes: 2 * unit.cells,
+        };
+        let aux = Part {
+            kind: BlockKind::Aux,
+            first: starts.aux,
+            past: starts.past,
+            bytes: 8 * (unit.k + 1),
+        };
+        self.bytes.len() == SIZE * starts.past
+            && self.head_laid(unit.p)
+            && self.table_laid(h)
+            && self.table_laid(g)
+            && self.table_laid(aux)
+    }
+
+    // Whether the bytes are those of a unit's file: unit is what the head says, and every check is right.
+    pub(crate) fn is_file(self, unit: Record) -> bool
+        requires unit_value { unit ≡ said_in self.bytes.now }
+        requires file_value { right_checks (length self.bytes.now / block_size) self.bytes.now ≡ true }
+        ensures { result ≡ is_file self.entry.bytes.now }
+    {
+        record::right(unit) && self.laid_by(unit)
+    }
 }

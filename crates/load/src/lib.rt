@@ -2,64 +2,39 @@
 #![tactic(auto)]
 
 ghost use Rattle.std.specs.Prelude.{◌≡◌};
-ghost use Rattle.record.specs.Record.{blank_record};
 ghost use Rattle.record.specs.Tables.{lent};
 ghost use Rattle.file.specs.Read.{read_of};
-ghost use Rattle.load.specs.Load.{after};
+ghost use Rattle.load.specs.Load.{told, after};
 
-use block::SIZE;
+use blocks::Blocks;
 use record::Record;
+use refusal::Refusal;
 
 mod blocks;
 mod head;
 mod tables;
 
-// How a call of `read` ends; the record is blank beside a refusal.
-#[derive(Clone, Copy)]
-pub struct Loaded {
-    pub refusal: u8,
-    pub place: usize,
-    pub unit: Record,
-}
-
-fn refused(refusal: u8) -> Loaded
-    ensures { result ≡ record { refusal = refusal; place = 0; unit = blank_record } }
-{
-    let unit = record::blank();
-    Loaded {
-        refusal,
-        place: 0,
-        unit,
-    }
-}
-
-// Reads the file of a unit into the tables; words past those of the unit keep their value. Refused with nothing written: as 21 where the
-// length is 0 or no whole number of blocks, as 22 for a block's check, as 23 for any other byte that no unit's file has there, and as 24
-// where a table is too short.
-pub fn read(file: &[u8], h: &mut [u16], g: &mut [u16], aux: &mut [u64]) -> Loaded
-    ensures { after result (lent h.new g.new aux.new)
+// Reads the file of a unit into the tables; words past those of the unit keep their value. Refused with nothing written: as `FileLength`
+// where the length is 0 or no whole number of blocks, as `BlockCheck` for a block's check, as `NoFile` for any other byte that no unit's
+// file has there, and as `ShortForFile` where a table is too short.
+// H, G and AUX are no struct: each caller has them as three slices (the C interface), and it would be taken apart in fill.
+pub fn read(file: &[u8], h: &mut [u16], g: &mut [u16], aux: &mut [u64]) -> Result<Record, Refusal>
+    ensures { after (told result) (lent h.new g.new aux.new)
         ≡ read_of file.now (lent h.old g.old aux.old) }
 {
-    if file.len() == 0 {
-        return refused(21);
+    let Some(blocks) = Blocks::of(file) else {
+        return Err(Refusal::FileLength);
+    };
+    if !blocks.right_checks() {
+        return Err(Refusal::BlockCheck);
     }
-    if file.len() % SIZE != 0 {
-        return refused(21);
-    }
-    if !blocks::right_checks(file) {
-        return refused(22);
-    }
-    let unit = head::said(file);
-    if !blocks::is_file(unit, file) {
-        return refused(23);
+    let unit = head::said(blocks);
+    if !blocks.is_file(unit) {
+        return Err(Refusal::NoFile);
     }
     if !record::long_enough(unit, h, g, aux) {
-        return refused(24);
+        return Err(Refusal::ShortForFile);
     }
     tables::fill(unit, file, h, g, aux);
-    Loaded {
-        refusal: 0,
-        place: 0,
-        unit,
-    }
+    Ok(unit)
 }

@@ -11,11 +11,10 @@ use borrow.Author.Tests.{eqb-true, eqb-false}
 use Rattle.lists.proofs.Tests.{le_or_lt}
 use Rattle.lists.proofs.Finding.Equals.{equal_first, equal_none, first_equal}
 use Rattle.vectors.specs.Variable.{row_of}
-use Rattle.span.specs.Span.{kept}
 use Rattle.vectors.proofs.Words.Laws.{word_parts}
 use Rattle.span.proofs.Unique.{one_vector}
 use Rattle.record.specs.declared.Record.{Record}
-use Rattle.lookup.specs.declared.Found.{Found}
+use Rattle.lookup.specs.Lookup.{Found}
 use Rattle.record.specs.Record.{kinds_in}
 use Rattle.record.specs.Tables.{Tables}
 use Rattle.lookup.specs.Lookup.{found, compared, answer, lookup_of}

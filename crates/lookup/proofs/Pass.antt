@@ -3,10 +3,8 @@ use Prim.Native.Nat.{ℕ, suc, ◌+◌, ◌-◌, ◌*◌, ◌/◌, ◌%◌, ◌^
 use native.Mathlib.Omega.{arith}
 use native.Mathlib.Nat.{mul_comm, lt_of_lt_of_le}
 use mathlib.Core.Path.{◌≡◌, sym, ap, ap₂, subst, ◌∙◌}
-use mathlib.Core.Bool.{true, false, not, true≢false}
+use mathlib.Core.Bool.{true, false, true≢false}
 use mathlib.Core.List.{List}
-use borrow.Author.Tests.{eq-eqb, ne_eqb}
-use lib.Dec.{eqb}
 use lib.ListN.{length, get_or, take, length-map}
 use lib.Pow.{pow_mono, low, high}
 use lib.Seq.{slice, slice-cons, slice_empty}
@@ -63,20 +61,16 @@ module _ (n : ℕ) (vs : List Variable) (p : ℕ) (h : p ≤ length vs) where
       (ap (faulty n) k ∙ f, subst (λ (j : ℕ). Right n (slice j p (kinds_of vs))) (sym s) a)
 
   -- a faulty one is found
-  pub fault_here : (i : ℕ) (d : Variable) → i < p → faulty n (get_or vs i d).kind ≡ true → true ≡ not (eqb (first_faulty n (kinds_of (take p vs))) 0)
+  pub fault_here : (i : ℕ) (d : Variable) → i < p → faulty n (get_or vs i d).kind ≡ true → first_faulty n (kinds_of (take p vs)) ≡ 0 → ⊥
   fault_here i d l f =
       let ks = kinds_of (take p vs) in
       let e : faulty n (get_or ks i (One 0)) ≡ true = ap (faulty n) (kinds_at vs p i d (One 0) l (omega arith)) ∙ f in
-      rw
-      (ne_eqb (first_faulty n ks) 0
-      (λ z. true≢false (sym e ∙ all_in (λ k. faulty n k ≡ false) (get_or ks i (One 0)) ks (none_all (faulty n) ks z) (get_d_in ks i (One 0) (omega (arith, kinds_length vs p h))))))
+      λ z.
+      true≢false (sym e ∙ all_in (λ k. faulty n k ≡ false) (get_or ks i (One 0)) ks (none_all (faulty n) ks z) (get_d_in ks i (One 0) (omega (arith, kinds_length vs p h))))
 
   -- or none is
-  pub fault_none : Right n (slice 0 p (kinds_of vs)) → false ≡ not (eqb (first_faulty n (kinds_of (take p vs))) 0)
-  fault_none a =
-      let ks = kinds_of (take p vs) in
-      let r : Right n ks = rw (map_take (λ (v : Variable). v.kind) p vs) a in
-      rw (eq-eqb (first_faulty n ks) 0 (all_none (faulty n) ks r))
+  pub fault_none : Right n (slice 0 p (kinds_of vs)) → first_faulty n (kinds_of (take p vs)) ≡ 0
+  fault_none a = all_none (faulty n) (kinds_of (take p vs)) (rw (map_take (λ (v : Variable). v.kind) p vs) a)
 
 pub values_all : (vs : List Variable) (p x : ℕ) → number_of (slice 0 p (kinds_of vs)) x ≡ number_of (kinds_of (take p vs)) x
 values_all vs p x = ap (λ (l : List Kind). number_of l x) (sym (map_take (λ (v : Variable). v.kind) p vs))
@@ -86,17 +80,30 @@ module _ (vs : List Variable) (p n1 x : ℕ) (h : p ≤ length vs) (l : n1 ≤ p
   abbrev ks : List Kind
   ks = kinds_of (take p vs)
 
-  parted : number_of ks x ≡ column_of n1 ks x * 2 ^ n1 + row_of n1 ks x
-  parted = number_split ks n1 x (omega (arith, kinds_length vs p h)) ∙ omega (arith, mul_comm (2 ^ n1) (column_of n1 ks x))
+  split : number_of ks x ≡ column_of n1 ks x * 2 ^ n1 + row_of n1 ks x
+  split = number_split ks n1 x (omega (arith, kinds_length vs p h)) ∙ omega (arith, mul_comm (2 ^ n1) (column_of n1 ks x))
 
   pub row_below : row_of n1 ks x < 2 ^ n1
   row_below = row_lt n1 ks x (omega (arith, kinds_length vs p h))
 
   pub values_row : number_of ks x % 2 ^ n1 ≡ row_of n1 ks x
-  values_row = ap (λ (v : ℕ). v % 2 ^ n1) parted ∙ low (column_of n1 ks x) n1 row_below
+  values_row = ap (λ (v : ℕ). v % 2 ^ n1) split ∙ low (column_of n1 ks x) n1 row_below
 
   pub values_column : number_of ks x / 2 ^ n1 ≡ column_of n1 ks x
-  values_column = ap (λ (v : ℕ). v / 2 ^ n1) parted ∙ high (column_of n1 ks x) n1 row_below
+  values_column = ap (λ (v : ℕ). v / 2 ^ n1) split ∙ high (column_of n1 ks x) n1 row_below
 
   pub column_below : column_of n1 ks x < 2 ^ (p - n1)
   column_below = rw (kinds_length vs p h) at (column_lt n1 ks x)
+
+  -- of the values as a number: the row and the column that the code takes from it
+  pub record Parted (row column : ℕ) : Type 0 where
+    pub row_is : row ≡ row_of n1 (kinds_of (take p vs)) x
+    pub row_low : row < 2 ^ n1
+    pub column_is : column ≡ column_of n1 (kinds_of (take p vs)) x
+    pub column_low : column < 2 ^ (p - n1)
+
+  pub parted : (values row : ℕ) → values ≡ number_of ks x → row ≡ values % 2 ^ n1 → Parted row (values / 2 ^ n1)
+  parted values row e f =
+      let r = f ∙ ap (λ (v : ℕ). v % 2 ^ n1) e ∙ values_row in
+      let c = ap (λ (v : ℕ). v / 2 ^ n1) e ∙ values_column in
+      record { row_is = r; row_low = rw r row_below; column_is = c; column_low = rw c column_below }

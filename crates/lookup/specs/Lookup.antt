@@ -1,12 +1,19 @@
 -- The index of a key.
-use Rattle.std.specs.Prelude.{ℕ, zero, suc, ◌^◌, true, false, List, eqb, leb, ltb, get_or}
+use Rattle.std.specs.Prelude.{ℕ, zero, suc, ◌^◌, true, false, Result, Ok, Err, List, eqb, leb, ltb, get_or}
+use Rattle.refusal.specs.declared.Refusal.{Refusal}
+use Rattle.refusal.specs.Refusal.{number_of as refusal_number}
 use Rattle.vectors.specs.Variable.{number_of}
 use Rattle.vectors.specs.Word.{word_of}
 use Rattle.record.specs.declared.Record.{Record}
-use Rattle.lookup.specs.declared.Found.{Found}
 use Rattle.record.specs.Tables.{Tables, index_in}
 use Rattle.record.specs.Formed.{well_formed}
 use Rattle.record.specs.Leads.{word_in, cell_in}
+
+-- the refusal's number and its place, 0 and 0 where the call is accepted; the index, 0 where the key is not registered
+pub record Found : Type 0 where
+  pub refusal : ℕ
+  pub place : ℕ
+  pub index : ℕ
 
 -- SCOPE 11.3, 11.7: an index beside refusal 0, or a refusal with the index 0; the place is 0
 abbrev pub found : ℕ → Found
@@ -14,6 +21,11 @@ found i = record { refusal = 0; place = 0; index = i }
 
 abbrev pub not_found : ℕ → Found
 not_found number = record { refusal = number; place = 0; index = 0 }
+
+-- an index or a refusal by name
+abbrev pub told : Result ℕ Refusal → Found
+told (Ok i) = found i
+told (Err refused) = not_found (refusal_number refused)
 
 -- SCOPE 9.3, 9.4: an empty cell gives 0, an index above k is refused, any other stands where the comparison word of x is its word in AUX
 unfoldable pub compared : Record → List ℕ → ℕ → ℕ → Found

@@ -14,7 +14,7 @@ use Rattle.vectors.specs.Variable.{row_of, column_of}
 use Rattle.vectors.proofs.Variables.Numbers.{column_lt}
 use Rattle.vectors.proofs.Words.Laws.{word_row}
 use Rattle.record.specs.declared.Record.{Record}
-use Rattle.vectors.specs.Bounds.{max_side}
+use Rattle.vectors.specs.Bounds.{max_inputs, max_side}
 use Rattle.record.specs.Inner.Formed.{WellFormed}
 use Rattle.record.specs.Record.{kinds_in}
 use Rattle.record.specs.Tables.{Tables}
@@ -22,8 +22,10 @@ use Rattle.record.specs.Leads.{word_in, cell_in}
 use Rattle.lookup.specs.Lookup.{found, not_found, compared, answer, lookup_of}
 use Rattle.lookup.proofs.Lookups.{answer_out, answer_in, compared_none, compared_above, lookup_beyond, lookup_answer}
 use Rattle.many.specs.declared.find.Frame.{Frame}
-use Rattle.many.specs.Image.{image_of}
-use Rattle.many.specs.Inner.Images.{table_words, FrameOf, Room, Opened}
+use Rattle.vectors.specs.Masks.{number_by}
+use Rattle.many.specs.Image.{image_of, Linear}
+use Rattle.many.specs.Inner.Images.{table_words, byte_bits, key_bytes, image_masks, Tabled, Narrow, FrameOf, Room, Opened}
+use Rattle.many.proofs.Linear.{number_linear, key_bytes_lem}
 
 -- ---- the parts of an image
 
@@ -60,9 +62,9 @@ module _ (u : Record) (f : Frame) (x y : ℕ) (o : FrameOf u f) (e : y ≡ image
 
 -- ---- the tables are long enough
 
-pub frame_room : (u : Record) (t : Tables) (f : Frame) (images keys indices : ℕ) → WellFormed u t → FrameOf u f → images ≡ table_words → keys ≤ indices
-    → Room f images (length t.h) (length t.g) (length t.aux) keys indices
-frame_room u t f images keys indices w o e h =
+pub frame_room : (u : Record) (t : Tables) (f : Frame) (images : ℕ) → WellFormed u t → FrameOf u f → images ≡ table_words
+    → Room f images (length t.h) (length t.g) (length t.aux)
+frame_room u t f images w o e =
     record {
       images_held = e;
       fits = record {
@@ -72,7 +74,6 @@ frame_room u t f images keys indices w o e h =
         cells_held = omega (arith, o.cells, w.cells_held);
       };
       words_held = omega (arith, o.k, w.words_held);
-      indices_held = h;
     }
 
 -- ---- an index that is not above k
@@ -95,6 +96,14 @@ compared_found u aux x (suc i) h = rw (le-leb (suc i) u.k h, compared) (go (eqb 
 module _ (u : Record) (t : Tables) (f : Frame) (images : List ℕ) (o : Opened u t f images) (x : ℕ) where
   pub key_beyond : f.last < x → not_found 6 ≡ lookup_of u t x
   key_beyond h = lookup_beyond u t x o.formed (omega (arith, o.frame.last, pow_pos u.n))
+
+  -- y is what the tables give for it
+  pub image_is : x ≤ f.last → (wide : Bool) (y : ℕ) → x < 2 ^ max_inputs → Narrow wide f.last
+      → ((number : ℕ → ℕ) (bytes : ℕ) → Linear number → Tabled bytes number images → x < 2 ^ (byte_bits * bytes) → Narrow wide x → y ≡ number x)
+      → y ≡ image_of u x
+  image_is h wide y b n e =
+      let k : x < 2 ^ u.n = omega (arith, o.frame.last, pow_pos u.n) in
+      e (number_by (image_masks u)) (key_bytes u.n) (number_linear (image_masks u)) o.tabled (key_bytes_lem u.n x k) (λ z. omega (arith, n z)) ∙ o.image x b
 
   module _ (h : x ≤ f.last) (i : ℕ) (e : compared u t.aux x i ≡ answer u t x) where
     compared_is : compared u t.aux x i ≡ lookup_of u t x

@@ -1,5 +1,5 @@
 -- The images of single bits, made an input at a time. Assumes nothing.
-use Prim.Native.Nat.{ℕ, zero, suc, ◌+◌, ◌-◌, ◌*◌, ◌/◌, ◌%◌, ◌^◌, ◌≤◌, ◌<◌}
+use Prim.Native.Nat.{ℕ, suc, ◌+◌, ◌-◌, ◌*◌, ◌/◌, ◌%◌, ◌^◌, ◌≤◌, ◌<◌}
 use native.Mathlib.Nat.{mod-lt, zero-lt-suc, zero-add, one-mul, mul_comm, mul_assoc, pow-suc}
 use native.Mathlib.Omega.{arith}
 use native.Mathlib.Numerals.{add-one}
@@ -10,9 +10,10 @@ use borrow.Author.Tests.{eqb-true, eqb-false}
 use lib.Bits.{bit_and, bit_xor, and_zero_r, xor_zero_l, xor_zero_r, xor_mod}
 use lib.Count.{ones, ones_step}
 use lib.Dec.{eqb}
-use lib.ListN.{length, get_or, take, drop, set, replicate, get_or-replicate, length-set, length-map, length-append, length-drop, drop_of_length-le}
+use lib.ListN.{length, get_or, take, drop, set, replicate, get_or-replicate, length-set, length-map, length-append, length-drop}
 use lib.Pow.{shl_exact}
-use lib.Seq.{get_or-set_same, get_or-set_other, take-suc, take-take, drop-append-le, length-take-le}
+use Rattle.std.proofs.lemmas.List.{drop-take}
+use lib.Seq.{get_or-set_same, get_or-set_other, take-suc, take-take, length-take-le}
 use Rattle.lists.proofs.Entries.Members.{map_drop, map_take}
 use Rattle.vectors.specs.Bits.{bit, place_of}
 use Rattle.vectors.specs.Bounds.{max_inputs}
@@ -123,38 +124,31 @@ two_mask ms i j l s =
     ap (λ (y : ℕ). bit_xor y (place_of j % 2 ^ max_inputs)) (xor_zero_l (place_of i % 2 ^ max_inputs)) ∙ sym (xor_mod (place_of i) (place_of j) max_inputs) in
     rw e at s
 
--- ---- the masks of the variables from one place up to another
+-- ---- the masks of the first variables of a list
 
-abbrev pub between : ℕ → ℕ → List Variable → List ℕ
-between from to vs = masks_of (kinds_of (drop from (take to vs)))
+abbrev pub marked : ℕ → List Variable → List ℕ
+marked i vs = masks_of (kinds_of (take i vs))
 
-module _ (from : ℕ) (vs : List Variable) where
-  pub between_none : from ≤ length vs → between from from vs ≡ []
-  between_none h =
-      let k : length (take from vs) ≤ from = omega (arith, length-take-le from vs h) in
-      ap (λ l. masks_of (kinds_of l)) (drop_of_length-le (take from vs) k)
+module _ (vs : List Variable) where
+  marked_length : (i : ℕ) → i ≤ length vs → length (marked i vs) ≡ i
+  marked_length i h =
+      masks_length (kinds_of (take i vs)) ∙ length-map (take i vs) (λ v. v.kind) ∙ length-take-le i vs h
 
-  between_length : (i : ℕ) → i ≤ length vs → length (between from i vs) ≡ i - from
-  between_length i h =
-      masks_length (kinds_of (drop from (take i vs))) ∙ length-map (drop from (take i vs)) (λ v. v.kind) ∙ length-drop from (take i vs)
-      ∙ ap (λ (k : ℕ). k - from) (length-take-le i vs h)
-
-  between_more : (i : ℕ) (d : Variable) → from ≤ i → i < length vs → between from (i + 1) vs ≡ between from i vs ++ (mask_of (get_or vs i d).kind % 2 ^ max_inputs ∷ [])
-  between_more i d k h =
-      ap (λ (n : ℕ). between from n vs) (add-one i) ∙ ap (λ l. masks_of (kinds_of (drop from l))) (take-suc vs i d h)
-      ∙ ap (λ l. masks_of (kinds_of l)) (drop-append-le from (take i vs) (get_or vs i d ∷ []) (omega (arith, length-take-le i vs (omega arith))))
-      ∙ ap masks_of (map-append (λ v. v.kind) (drop from (take i vs)) (get_or vs i d ∷ []))
-      ∙ map-append (λ k. mask_of k % 2 ^ max_inputs) (kinds_of (drop from (take i vs))) ((get_or vs i d).kind ∷ [])
+  marked_more : (i : ℕ) (d : Variable) → i < length vs → marked (i + 1) vs ≡ marked i vs ++ (mask_of (get_or vs i d).kind % 2 ^ max_inputs ∷ [])
+  marked_more i d h =
+      ap (λ (n : ℕ). marked n vs) (add-one i) ∙ ap (λ l. masks_of (kinds_of l)) (take-suc vs i d h)
+      ∙ ap masks_of (map-append (λ v. v.kind) (take i vs) (get_or vs i d ∷ []))
+      ∙ map-append (λ k. mask_of k % 2 ^ max_inputs) (kinds_of (take i vs)) ((get_or vs i d).kind ∷ [])
 
   -- one variable more: new is left by what puts its bit at its inputs
-  pub variable_more : (ms l new : List ℕ) (at i bit : ℕ) (d : Variable) → from ≤ i → i < length vs → length ms ≡ at → at + (i - from) < max_inputs
-      → bit ≡ 1 * 2 ^ (at + (i - from)) % 2 ^ max_inputs → OnBits max_inputs (number_by (ms ++ between from i vs)) l
+  pub variable_more : (ms l new : List ℕ) (at i bit : ℕ) (d : Variable) → i < length vs → length ms ≡ at → at + i < max_inputs
+      → bit ≡ 1 * 2 ^ (at + i) % 2 ^ max_inputs → OnBits max_inputs (number_by (ms ++ marked i vs)) l
       → ((ns : List ℕ) → bit ≡ 2 ^ length ns → OnBits max_inputs (number_by ns) l → OnBits max_inputs (number_by (ns ++ (mask_of (get_or vs i d).kind % 2 ^ max_inputs ∷ []))) new)
-      → OnBits max_inputs (number_by (ms ++ between from (i + 1) vs)) new
-  variable_more ms l new at i bit d k h e low f s g =
-      let n : length (ms ++ between from i vs) ≡ at + (i - from) = length-append ms (between from i vs) ∙ ap₂ (λ (a b : ℕ). a + b) e (between_length i (omega arith)) in
-      rw (between_more i d k h, ← append_assoc ms (between from i vs) (mask_of (get_or vs i d).kind % 2 ^ max_inputs ∷ []))
-      (g (ms ++ between from i vs) (f ∙ single_bit (at + (i - from)) low ∙ ap (λ (a : ℕ). 2 ^ a) (sym n)) s)
+      → OnBits max_inputs (number_by (ms ++ marked (i + 1) vs)) new
+  variable_more ms l new at i bit d h e low f s g =
+      let n : length (ms ++ marked i vs) ≡ at + i = length-append ms (marked i vs) ∙ ap₂ (λ (a b : ℕ). a + b) e (marked_length i (omega arith)) in
+      rw (marked_more i d h, ← append_assoc ms (marked i vs) (mask_of (get_or vs i d).kind % 2 ^ max_inputs ∷ []))
+      (g (ms ++ marked i vs) (f ∙ single_bit (at + i) low ∙ ap (λ (a : ℕ). 2 ^ a) (sym n)) s)
 
 -- ---- a loop that takes the kept inputs from the lowest on: rest is what is left of them, from place j on, and q masks are done
 
@@ -164,41 +158,37 @@ pub record Peeled (kept : ℕ) (l : List ℕ) (rest j q : ℕ) (ms : List ℕ) :
   pub holds : OnBits max_inputs (number_by done) l
   pub whole : done ++ singles (max_inputs - j) j rest ≡ ms ++ singles max_inputs 0 kept
 
-pub record Peeling (kept at : ℕ) (old l : List ℕ) (rest j q : ℕ) : Type 0 where
-  pub low : j ≤ max_inputs
-  pub small : rest < 2 ^ (max_inputs - j)
+pub record Peeling (bits kept at : ℕ) (old l : List ℕ) (rest j q : ℕ) : Type 0 where
+  pub few : bits ≤ max_inputs
+  pub low : j ≤ bits
+  pub small : rest < 2 ^ (bits - j)
   pub size : length l ≡ max_inputs
   pub room : q + ones rest ≡ at + ones kept
   pub is : (ms : List ℕ) → length ms ≡ at → OnBits max_inputs (number_by ms) old → Peeled kept l rest j q ms
 
-pub peel_none : (kept at : ℕ) (old : List ℕ) → kept < 2 ^ max_inputs → length old ≡ max_inputs → Peeling kept at old old kept 0 at
-peel_none kept at old h e =
-    record { low = omega arith; small = h; size = e; room = refl; is = λ ms n s. record { done = ms; count = n; holds = s; whole = refl } }
+pub peel_none : (bits kept at : ℕ) (old : List ℕ) → bits ≤ max_inputs → kept < 2 ^ bits → length old ≡ max_inputs → Peeling bits kept at old old kept 0 at
+peel_none bits kept at old f h e =
+    let z : bits - 0 ≡ bits = omega arith in
+    record { few = f; low = omega arith; small = rw z h; size = e; room = refl; is = λ ms n s. record { done = ms; count = n; holds = s; whole = refl } }
 
-module _ (kept at : ℕ) (old l : List ℕ) (rest j q : ℕ) (s : Peeling kept at old l rest j q) where
-  pub peel_below : (rest ≡ 0 → ⊥) → j < max_inputs
-  peel_below n = go (max_inputs - j) refl
-    where
-      go : (d : ℕ) → max_inputs - j ≡ d → j < max_inputs
-      go zero e = absurd (n (let k : rest < 2 ^ 0 = rw e at s.small in omega arith))
-      go (suc d) e = omega arith
-
-  module _ (n : rest ≡ 0 → ⊥) where
+module _ (bits kept at : ℕ) (old l : List ℕ) (rest j q : ℕ) (s : Peeling bits kept at old l rest j q) where
+  module _ (n : j < bits) where
     left : max_inputs - j ≡ suc (max_inputs - (j + 1))
-    left = omega (arith, peel_below n)
+    left = omega (arith, s.few)
 
-    half : rest / 2 < 2 ^ (max_inputs - (j + 1))
-    half = half_lt (max_inputs - (j + 1)) (rw left at s.small)
+    half : rest / 2 < 2 ^ (bits - (j + 1))
+    half = let e : bits - j ≡ suc (bits - (j + 1)) = omega arith in half_lt (bits - (j + 1)) (rw e at s.small)
 
     next : (k : ℕ) → singles (max_inputs - (j + 1)) (suc j) k ≡ singles (max_inputs - (j + 1)) (j + 1) k
     next k = ap (λ (i : ℕ). singles (max_inputs - (j + 1)) i k) (sym (add-one j))
 
-    pub peel_even : rest % 2 ≡ 0 → Peeling kept at old l (rest / 2) (j + 1) q
+    pub peel_even : rest % 2 ≡ 0 → Peeling bits kept at old l (rest / 2) (j + 1) q
     peel_even e =
         let f : singles (max_inputs - j) j rest ≡ singles (max_inputs - (j + 1)) (j + 1) (rest / 2) =
         ap (λ (d : ℕ). singles d j rest) left ∙ singles_even (max_inputs - (j + 1)) j rest e ∙ next (rest / 2) in
         record {
-          low = omega (arith, peel_below n);
+          few = s.few;
+          low = omega arith;
           small = half;
           size = s.size;
           room = ap (λ (k : ℕ). q + k) (sym (ones_step rest ∙ ap (λ (r : ℕ). r + ones (rest / 2)) e ∙ zero-add _)) ∙ s.room;
@@ -211,13 +201,14 @@ module _ (kept at : ℕ) (old l : List ℕ) (rest j q : ℕ) (s : Peeling kept a
     peel_room e h = omega (arith, s.room, ones_step rest)
 
     pub peel_odd : (w : ℕ) → rest % 2 ≡ 1 → at + ones kept ≤ max_inputs → w ≡ 1 * 2 ^ q % 2 ^ max_inputs
-        → Peeling kept at old (set l j (bit_xor (get_or l j 0) w)) (rest / 2) (j + 1) (q + 1)
+        → Peeling bits kept at old (set l j (bit_xor (get_or l j 0) w)) (rest / 2) (j + 1) (q + 1)
     peel_odd w e h g =
         let f : singles (max_inputs - j) j rest ≡ 2 ^ j ∷ singles (max_inputs - (j + 1)) (j + 1) (rest / 2) =
         ap (λ (d : ℕ). singles d j rest) left ∙ singles_odd (max_inputs - (j + 1)) j rest e ∙ ap (λ (t : List ℕ). 2 ^ j ∷ t) (next (rest / 2)) in
         let b : w ≡ 2 ^ q = g ∙ single_bit q (peel_room e h) in
         record {
-          low = omega (arith, peel_below n);
+          few = s.few;
+          low = omega arith;
           small = half;
           size = length-set l j _ ∙ s.size;
           room = omega (arith, s.room, ones_step rest);
@@ -226,13 +217,16 @@ module _ (kept at : ℕ) (old l : List ℕ) (rest j q : ℕ) (s : Peeling kept a
               record {
                 done = p.done ++ (2 ^ j ∷ []);
                 count = length-append p.done (2 ^ j ∷ []) ∙ ap (λ (a : ℕ). a + 1) p.count;
-                holds = mask_single p.done l p.holds s.size j w (peel_below n) (b ∙ ap (λ (a : ℕ). 2 ^ a) (sym p.count));
+                holds = mask_single p.done l p.holds s.size j w (omega (arith, s.few)) (b ∙ ap (λ (a : ℕ). 2 ^ a) (sym p.count));
                 whole = append_assoc p.done (2 ^ j ∷ []) (singles (max_inputs - (j + 1)) (j + 1) (rest / 2)) ∙ ap (λ (t : List ℕ). p.done ++ t) (sym f) ∙ p.whole;
               };
         }
 
-  pub peel_end : rest ≡ 0 → (ms : List ℕ) → length ms ≡ at → OnBits max_inputs (number_by ms) old → OnBits max_inputs (number_by (ms ++ singles max_inputs 0 kept)) l
-  peel_end e ms k o =
+  pub peel_end : bits ≤ j → (ms : List ℕ) → length ms ≡ at → OnBits max_inputs (number_by ms) old → OnBits max_inputs (number_by (ms ++ singles max_inputs 0 kept)) l
+  peel_end h ms k o =
+      let d : bits - j ≡ 0 = omega arith in
+      let t : rest < 2 ^ 0 = rw d at s.small in
+      let e : rest ≡ 0 = omega arith in
       let p = s.is ms k o in
       let f : p.done ≡ ms ++ singles max_inputs 0 kept =
       sym (append-nil p.done) ∙ ap (λ (t : List ℕ). p.done ++ t) (sym (ap (singles (max_inputs - j) j) e ∙ singles_zero (max_inputs - j) j)) ∙ p.whole in
@@ -240,24 +234,40 @@ module _ (kept at : ℕ) (old l : List ℕ) (rest j q : ℕ) (s : Peeling kept a
 
 -- ---- no mask, then those of the column, of the row and of the kept inputs
 
-module _ (u : Record) (b : InBounds u) (h : u.p ≤ length u.variables) where
-  columns_is : between u.n1 u.p u.variables ≡ masks_of (drop u.n1 (kinds_in u))
-  columns_is = ap masks_of (map_drop (λ v. v.kind) u.n1 (take u.p u.variables))
+-- the variables of the columns, and those of the rows
+abbrev pub columns : Record → List Variable
+columns u = take (u.p - u.n1) (drop u.n1 u.variables)
 
-  rows_is : between 0 u.n1 u.variables ≡ masks_of (take u.n1 (kinds_in u))
-  rows_is =
+abbrev pub rows : Record → List Variable
+rows u = take u.n1 u.variables
+
+module _ (u : Record) (b : InBounds u) (h : u.p ≤ length u.variables) where
+  pub columns_length : length (columns u) ≡ u.p - u.n1
+  columns_length = length-take-le (u.p - u.n1) (drop u.n1 u.variables) (omega (arith, length-drop u.n1 u.variables))
+
+  pub rows_length : length (rows u) ≡ u.n1
+  rows_length = length-take-le u.n1 u.variables (omega (arith, b.rows_in))
+
+  columns_are : masks_of (kinds_of (columns u)) ≡ masks_of (drop u.n1 (kinds_in u))
+  columns_are =
+      let e : u.n1 + (u.p - u.n1) ≡ u.p = omega (arith, b.rows_in) in
+      ap (λ l. masks_of (kinds_of l)) (sym (drop-take u.n1 (u.p - u.n1) u.variables) ∙ ap (λ (k : ℕ). drop u.n1 (take k u.variables)) e)
+      ∙ ap masks_of (map_drop (λ v. v.kind) u.n1 (take u.p u.variables))
+
+  rows_are : masks_of (kinds_of (rows u)) ≡ masks_of (take u.n1 (kinds_in u))
+  rows_are =
       ap masks_of (ap kinds_of (sym (take-take u.n1 u.p u.variables b.rows_in)) ∙ map_take (λ v. v.kind) u.n1 (take u.p u.variables))
 
   pub images_are : (m1 m2 m3 : List ℕ)
-      → ((ms : List ℕ) → length ms ≡ 0 → OnBits max_inputs (number_by ms) (replicate max_inputs 0) → OnBits max_inputs (number_by (ms ++ between u.n1 u.p u.variables)) m1)
-      → ((ms : List ℕ) → length ms ≡ u.p - u.n1 → OnBits max_inputs (number_by ms) m1 → OnBits max_inputs (number_by (ms ++ between 0 u.n1 u.variables)) m2)
+      → ((ms : List ℕ) → length ms ≡ 0 → OnBits max_inputs (number_by ms) (replicate max_inputs 0) → OnBits max_inputs (number_by (ms ++ masks_of (kinds_of (columns u)))) m1)
+      → ((ms : List ℕ) → length ms ≡ u.p - u.n1 → OnBits max_inputs (number_by ms) m1 → OnBits max_inputs (number_by (ms ++ masks_of (kinds_of (rows u)))) m2)
       → ((ms : List ℕ) → length ms ≡ u.p → OnBits max_inputs (number_by ms) m2 → OnBits max_inputs (number_by (ms ++ singles max_inputs 0 u.kept)) m3)
       → OnBits max_inputs (number_by (image_masks u)) m3
   unfolding image_masks number_by
   images_are m1 m2 m3 f g k =
-      let A : List ℕ = between u.n1 u.p u.variables in
-      let B : List ℕ = between 0 u.n1 u.variables in
-      let la : length A ≡ u.p - u.n1 = between_length u.n1 u.variables u.p h in
-      let lb : length B ≡ u.n1 - 0 = between_length 0 u.variables u.n1 (omega (arith, b.rows_in)) in
+      let A : List ℕ = masks_of (kinds_of (columns u)) in
+      let B : List ℕ = masks_of (kinds_of (rows u)) in
+      let la : length A ≡ u.p - u.n1 = masks_length (kinds_of (columns u)) ∙ length-map (columns u) (λ v. v.kind) ∙ columns_length in
+      let lb : length B ≡ u.n1 = masks_length (kinds_of (rows u)) ∙ length-map (rows u) (λ v. v.kind) ∙ rows_length in
       let lab : length (A ++ B) ≡ u.p = length-append A B ∙ omega (arith, b.rows_in) in
-      rw (← columns_is, ← rows_is) (k (A ++ B) lab (g A la (f [] refl (λ i l. get_or-replicate max_inputs i 0 0 l))))
+      rw (← columns_are, ← rows_are) (k (A ++ B) lab (g A la (f [] refl (λ i l. get_or-replicate max_inputs i 0 0 l))))

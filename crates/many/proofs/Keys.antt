@@ -1,8 +1,9 @@
 -- A loop along the keys: the indices stored, and the first refusal. Assumes nothing.
-use Prim.Native.Nat.{ℕ, zero, suc, ◌+◌, ◌≤◌, ◌<◌}
+use Prim.Native.Nat.{ℕ, suc, ◌+◌, ◌-◌, ◌≤◌, ◌<◌}
 use native.Mathlib.Omega.{arith}
 use native.Mathlib.Numerals.{add-one}
 use mathlib.Core.Path.{◌≡◌, refl, sym, ap, ap₂, ◌∙◌}
+use Rattle.std.proofs.Common.{Result, Ok, Err}
 use mathlib.Core.Bool.{cond}
 use mathlib.Core.List.{List, [], ◌∷◌, ◌++◌, map}
 use borrow.Author.Tests.{lt-ltb, le-ltb}
@@ -11,20 +12,14 @@ use lib.ListN.{length, get_or, take, drop, set, replicate, length-map, drop_of_l
 use lib.Seq.{drop-cons, length-take-le}
 use Rattle.lists.proofs.Entries.Members.{get_d_map}
 use Rattle.lists.proofs.Writing.Storing.{storing_none}
-use Rattle.lookup.specs.declared.Found.{Found}
+use Rattle.refusal.specs.declared.Refusal.{Refusal}
+use Rattle.refusal.specs.declared.Refused.{Refused}
+use Rattle.refusal.specs.Refusal.{number_of}
 use Rattle.record.specs.Tables.{over}
-use Rattle.lookup.specs.Lookup.{found, not_found}
-use Rattle.many.specs.declared.Many.{Many}
-use Rattle.many.specs.Lookups.{refused_at, or_else, first_refused, left, left_by, lookup_many}
-use Rattle.many.specs.Inner.Keys.{Done, Stopped}
+use Rattle.lookup.specs.Lookup.{Found, found, not_found}
+use Rattle.many.specs.Lookups.{Many, refused_at, or_else, first_refused, left, left_by, lookup_many}
+use Rattle.many.specs.Inner.Keys.{Done, Within, Stopped}
 use Rattle.many.proofs.Stored.{stored_more, stored_all}
-
--- ---- the first refusal
-
-else_some : (r p : ℕ) (m : Many) → (r ≡ 0 → ⊥) → refused_at r p ≡ or_else r p m
-unfolding or_else
-else_some zero p m n = absurd (n refl)
-else_some (suc r) p m n = refl
 
 -- ---- one key more
 
@@ -36,11 +31,6 @@ done_more look keys old l v i h e g =
 
 pub done_none : (look : ℕ → Found) (keys old : List ℕ) → Done look keys old old 0
 done_none look keys old = storing_none _ old 0
-
-pub done_end : (look : ℕ → Found) (keys old l : List ℕ) (i : ℕ) → length keys ≤ i → Done look keys old l i → Done look keys old l (length keys)
-done_end look keys old l i h g =
-    let e : i ≡ length keys = omega (arith, g.within, length-map keys (λ x. (look x).index)) in
-    rw e at g
 
 -- no key from one on up to i is refused
 pub record Stage (look : ℕ → Found) (keys old : List ℕ) (from : ℕ) (l : List ℕ) (i : ℕ) : Type 0 where
@@ -62,28 +52,46 @@ module _ (look : ℕ → Found) (keys old : List ℕ) where
       stage_more v e =
           record { stored = done_more look keys old l v i h (ap (λ f. f.index) e) g.stored; rest = rw (add-one i) (rw (sym e) at next) }
 
-      pub stage_stop : (r : ℕ) → not_found (suc r) ≡ look (get_or keys i 0) → Stopped look keys old from l (refused_at (suc r) i)
+      pub stage_stop : (r : Refusal) (k : ℕ) → number_of r ≡ suc k → not_found (suc k) ≡ look (get_or keys i 0)
+          → Stopped look keys old from l (Err (record { refusal = r; place = i + 1 }))
       unfolding or_else
-      stage_stop r e = record { stored = g.stored; first = rw (sym e) at next; refused = λ _. sym (ap (λ f. f.index) e) }
+      stage_stop r k n e =
+          let z : i + 1 - 1 ≡ i = omega arith in
+          record {
+            stored = rw z g.stored;
+            first = rw (n, add-one i) (rw (sym e) at next);
+            blank = rw z (λ _. sym (ap (λ f. f.index) e));
+          }
 
-    pub stage_all : length keys ≤ i → Stopped look keys old from l (refused_at 0 i)
-    unfolding first_refused or_else
-    stage_all h = record { stored = g.stored; first = rw (drop_of_length-le keys h) at g.rest; refused = λ k. absurd (omega arith) }
+    pub stage_all : length keys ≤ i → Stopped look keys old from l (Ok tt)
+    unfolding first_refused
+    stage_all h =
+        let e : i ≡ length keys = omega (arith, g.stored.within, length-map keys (λ x. (look x).index)) in
+        record { stored = rw e at g.stored; first = rw (drop_of_length-le keys h) at g.rest; blank = λ k. absurd (omega arith) }
 
   -- every key done
-  module _ (l new : List ℕ) (r m : Many) (n : length keys ≤ length old) (s : Stopped look keys old 0 l r) (d : Done look keys old new (length keys)) where
-    done_left : m ≡ first_refused look 1 keys → left m new ≡ left_by look keys old
-    unfolding left_by
-    done_left e =
-        let k : length (map (λ x. (look x).index) keys) ≡ length keys = length-map keys (λ x. (look x).index) in
-        ap₂ left e (stored_all (map (λ x. (look x).index) keys) old new (length keys) (omega arith) (omega arith) d)
+  pub done_left : (new : List ℕ) (m : Many) → length keys ≤ length old → m ≡ first_refused look 1 keys → Done look keys old new (length keys)
+      → left m new ≡ left_by look keys old
+  unfolding left_by
+  done_left new m n e d =
+      let k : length (map (λ x. (look x).index) keys) ≡ length keys = length-map keys (λ x. (look x).index) in
+      ap₂ left e (stored_all (map (λ x. (look x).index) keys) old new (length keys) (omega arith) (omega arith) d)
 
-    pub left_none : r.refusal ≡ 0 → m ≡ refused_at 0 0 → left m new ≡ left_by look keys old
-    unfolding or_else
-    left_none e f = done_left (f ∙ (rw e at s.first))
+-- ---- from run to run
 
-    pub left_some : (r.refusal ≡ 0 → ⊥) → m ≡ refused_at r.refusal (r.place + 1) → left m new ≡ left_by look keys old
-    left_some e f = done_left (f ∙ ap (refused_at r.refusal) (add-one r.place) ∙ else_some r.refusal (suc r.place) _ e ∙ s.first)
+-- a run that stops goes on after it
+pub within_any : (from keys : ℕ) (r : Result (Unit {0}) Refused) → Within from keys r → Within 0 keys r
+within_any from keys (Ok u) w = tt
+within_any from keys (Err s) w = (omega arith, w.1)
+
+-- how many keys are left then, and the one at which it stopped
+abbrev pub ahead : ℕ → Result (Unit {0}) Refused → ℕ
+ahead keys (Ok u) = 0
+ahead keys (Err s) = keys + 1 - s.place
+
+pub ahead_less : (from keys : ℕ) (r : Result (Unit {0}) Refused) → from ≤ keys → Within from keys r → ahead keys r < keys + 1 - from
+ahead_less from keys (Ok u) h w = omega arith
+ahead_less from keys (Err s) h w = omega (arith, w.0, w.1)
 
 -- ---- a unit that is not well formed refuses every key
 

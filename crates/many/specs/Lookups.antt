@@ -1,11 +1,22 @@
 -- Many keys looked up in one call: the answer, and every word of the indices after it.
-use Rattle.std.specs.Prelude.{ℕ, zero, suc, cond, List, [], ◌∷◌, map, ltb, length}
-use Rattle.lookup.specs.declared.Found.{Found}
+use Rattle.std.specs.Prelude.{ℕ, zero, suc, cond, Result, Ok, Err, List, [], ◌∷◌, map, ltb, length}
+use Rattle.refusal.specs.declared.Refused.{Refused}
+use Rattle.refusal.specs.Refusal.{number_of}
+use Rattle.lookup.specs.Lookup.{Found}
 use Rattle.record.specs.Tables.{over}
-use Rattle.many.specs.declared.Many.{Many}
+
+-- the refusal of the first key that is refused, and the key's number from 1; 0 and 0 where none is
+pub record Many : Type 0 where
+  pub refusal : ℕ
+  pub place : ℕ
 
 abbrev pub refused_at : ℕ → ℕ → Many
 refused_at refusal place = record { refusal = refusal; place = place }
+
+-- no refusal, or one by name with its place
+abbrev pub told : Result (Unit {0}) Refused → Many
+told (Ok u) = refused_at 0 0
+told (Err r) = refused_at (number_of r.refusal) r.place
 
 -- a refusal at a place; where it is 0, what comes after it
 unfoldable pub or_else : ℕ → ℕ → Many → Many

@@ -6,14 +6,16 @@ ghost use Rattle.record.specs.Tables.{lent};
 ghost use Rattle.record.specs.Leads.{word_in};
 ghost use Rattle.record.specs.Inner.Formed.{InBounds};
 ghost use Rattle.lookup.specs.Lookup.{compared, answer, lookup_of, not_found};
-ghost use Rattle.many.specs.Lookups.{left, left_by};
+ghost use Rattle.many.specs.Lookups.{told, left, left_by};
 ghost use Rattle.many.specs.Image.{image_of};
-ghost use Rattle.many.specs.Inner.Images.{FrameOf, Fits, Room, Opened, Narrow};
-ghost use Rattle.many.specs.Inner.Keys.{Done, Refused, Ran};
+ghost use Rattle.many.specs.Inner.Images.{FrameOf, Fits, Opened, Narrow};
+ghost use Rattle.many.specs.Inner.Keys.{Within, reached, Done, Blank, Ran};
 
+use crate::open::Open;
+use crate::tables;
 use crate::tables::EIGHTH;
-use crate::{Many, tables};
 use record::Record;
+use refusal::{Refusal, Refused};
 use vectors::MAX_INPUTS;
 
 // What is taken from a unit once: the last key of n bits, how many bits the column has, the masks of a column and of a row, L and k.
@@ -35,7 +37,7 @@ fn last(n: usize) -> u64
     if n < MAX_INPUTS {
         (1u64 << n) - 1
     } else {
-        0xffffffffffffffff
+        u64::MAX
     }
 }
 
@@ -55,6 +57,7 @@ pub(crate) fn framed(unit: Record) -> Frame
 }
 
 // The index in the cell of a key with the image y and that word; 0 where the cell is at L or above.
+// No Option: in a cell 0 is no index too, and `left_by` promises 0 beside a key that is not found.
 fn held(frame: Frame, h: &[u16], g: &[u16], y: u64, word: u64) -> usize
     requires { Fits frame (length h.now) (length g.now) }
     ensures { (result < 2 ^ 16) × ((u : Record) (aux : List ℕ) (x : ℕ) → FrameOf u frame → y ≡ image_of u x → word ≡ word_in u x
@@ -81,128 +84,83 @@ fn matched(aux: &[u64], i: usize, word: u64) -> u16
     0
 }
 
-// As `run`, of keys that have an eighth byte only where they are wide.
-fn along(
-    frame: Frame,
-    tables: &[u64],
-    h: &[u16],
-    g: &[u16],
-    aux: &[u64],
-    keys: &[u64],
-    wide: bool,
-    from: usize,
-    indices: &mut [u16],
-) -> Many
-    requires { Room frame (length tables.now) (length h.now) (length g.now) (length aux.now) (length keys.now) (length indices.old) × (from ≤ length keys.now) × Narrow wide frame.last }
-    ensures { Ran frame tables.now (lent h.now g.now aux.now) keys.now from
-        indices.old indices.new result }
-{
-    let count = keys.len();
-    let mut i = from;
-    while i < count {
-        let x = keys[i];
-        if frame.last < x {
-            return Many {
-                refusal: 6,
-                place: i,
-            };
+impl<'a> Open<'a> {
+    // As `run`, of keys that have an eighth byte only where they are wide.
+    fn along<const WIDE: bool>(
+        &self,
+        keys: &[u64],
+        from: usize,
+        indices: &mut [u16],
+    ) -> Result<(), Refused>
+        requires { (length keys.now ≤ length indices.old) × (from ≤ length keys.now) × Narrow WIDE self.now.frame.last }
+        ensures { Ran self.now.frame self.now.images.now (lent self.now.h.now self.now.g.now self.now.aux.now) keys.now from
+            indices.old indices.new result }
+    {
+        let frame = self.frame;
+        let count = keys.len();
+        for i in from..count {
+            let x = keys[i];
+            if frame.last < x {
+                return Err(Refusal::Beyond.at(i + 1));
+            }
+            let y = tables::image::<WIDE>(self.images, x);
+            let word = y >> frame.shift;
+            let index = held(frame, self.h, self.g, y, word);
+            if frame.k < index {
+                return Err(Refusal::NoUnit.at(i + 1));
+            }
+            indices[i] = matched(self.aux, index, word);
         }
-        let y = tables::image(tables, wide, x);
-        let word = y >> frame.shift;
-        let index = held(frame, h, g, y, word);
-        if frame.k < index {
-            return Many {
-                refusal: 14,
-                place: i,
-            };
+        Ok(())
+    }
+
+    // The keys from one on, up to the first that is refused: its refusal, with its number from 1. Wide keys and others have a loop each.
+    fn run(&self, keys: &[u64], from: usize, indices: &mut [u16]) -> Result<(), Refused>
+        requires { (length keys.now ≤ length indices.old) × (from ≤ length keys.now) }
+        ensures { Ran self.now.frame self.now.images.now (lent self.now.h.now self.now.g.now self.now.aux.now) keys.now from
+            indices.old indices.new result }
+    {
+        if self.frame.last < EIGHTH {
+            return self.along::<false>(keys, from, indices);
         }
-        indices[i] = matched(aux, index, word);
-        i += 1;
+        self.along::<true>(keys, from, indices)
     }
-    Many {
-        refusal: 0,
-        place: i,
-    }
-}
 
-// The keys from one on, up to the first that is refused: its refusal, and how many keys are done before it. Wide keys and others have a loop each, since
-// the compiler makes one for each word that `along` is told.
-fn run(
-    frame: Frame,
-    tables: &[u64],
-    h: &[u16],
-    g: &[u16],
-    aux: &[u64],
-    keys: &[u64],
-    from: usize,
-    indices: &mut [u16],
-) -> Many
-    requires { Room frame (length tables.now) (length h.now) (length g.now) (length aux.now) (length keys.now) (length indices.old) × (from ≤ length keys.now) }
-    ensures { Ran frame tables.now (lent h.now g.now aux.now) keys.now from
-        indices.old indices.new result }
-{
-    if frame.last < EIGHTH {
-        return along(frame, tables, h, g, aux, keys, false, from, indices);
+    // The keys from one on that is refused, where a run stopped.
+    fn go_on(&self, keys: &[u64], first: Result<(), Refused>, indices: &mut [u16])
+        requires { (length keys.now ≤ length indices.old) × Within 0 (length keys.now) first }
+        ensures { (u : Record) → Opened u (lent self.now.h.now self.now.g.now self.now.aux.now) self.now.frame self.now.images.now
+            → (old : List ℕ) → Done (lookup_of u (lent self.now.h.now self.now.g.now self.now.aux.now)) keys.now old indices.old (reached keys.now first)
+            → Blank (lookup_of u (lent self.now.h.now self.now.g.now self.now.aux.now)) keys.now (reached keys.now first)
+            → Done (lookup_of u (lent self.now.h.now self.now.g.now self.now.aux.now)) keys.now old indices.new (length keys.now) }
+    {
+        let mut next = first;
+        while let Err(stop) = next {
+            indices[stop.place - 1] = 0;
+            next = self.run(keys, stop.place, indices);
+        }
     }
-    along(frame, tables, h, g, aux, keys, true, from, indices)
-}
 
-// The keys from a refused one on.
-fn go_on(
-    frame: Frame,
-    tables: &[u64],
-    h: &[u16],
-    g: &[u16],
-    aux: &[u64],
-    keys: &[u64],
-    from: usize,
-    indices: &mut [u16],
-)
-    requires { Room frame (length tables.now) (length h.now) (length g.now) (length aux.now) (length keys.now) (length indices.old) }
-    ensures { (u : Record) → Opened u (lent h.now g.now aux.now) frame tables.now
-        → (old : List ℕ) → Done (lookup_of u (lent h.now g.now aux.now)) keys.now old indices.old from
-        → Refused (lookup_of u (lent h.now g.now aux.now)) keys.now from
-        → Done (lookup_of u (lent h.now g.now aux.now)) keys.now old indices.new (length keys.now) }
-{
-    let mut i = from;
-    while i < keys.len() {
-        indices[i] = 0;
-        let next = run(frame, tables, h, g, aux, keys, i + 1, indices);
-        i = next.place;
+    // The answer for all keys, of a unit that is well formed.
+    pub(crate) fn all(&self, keys: &[u64], indices: &mut [u16]) -> Result<(), Refused>
+        requires { length keys.now ≤ length indices.old }
+        ensures { (u : Record) → Opened u (lent self.now.h.now self.now.g.now self.now.aux.now) self.now.frame self.now.images.now
+            → left (told result) indices.new ≡ left_by (lookup_of u (lent self.now.h.now self.now.g.now self.now.aux.now)) keys.now indices.old }
+    {
+        let first = self.run(keys, 0, indices);
+        self.go_on(keys, first, indices);
+        first
     }
-}
-
-// The answer for all keys, of a unit that is well formed.
-pub(crate) fn all(
-    frame: Frame,
-    tables: &[u64],
-    h: &[u16],
-    g: &[u16],
-    aux: &[u64],
-    keys: &[u64],
-    indices: &mut [u16],
-) -> Many
-    requires { Room frame (length tables.now) (length h.now) (length g.now) (length aux.now) (length keys.now) (length indices.old) }
-    ensures { (u : Record) → Opened u (lent h.now g.now aux.now) frame tables.now
-        → left result indices.new ≡ left_by (lookup_of u (lent h.now g.now aux.now)) keys.now indices.old }
-{
-    let first = run(frame, tables, h, g, aux, keys, 0, indices);
-    go_on(frame, tables, h, g, aux, keys, first.place, indices);
-    if first.refusal == 0 {
-        return crate::refused(0, 0);
-    }
-    crate::refused(first.refusal, first.place + 1)
 }
 
 // The answer where the unit is not well formed: every key is refused.
-pub(crate) fn none(keys: &[u64], indices: &mut [u16]) -> Many
+pub(crate) fn none(keys: &[u64], indices: &mut [u16]) -> Result<(), Refused>
     requires { length keys.now ≤ length indices.old }
-    ensures { left result indices.new ≡ left_by (λ x. not_found 14) keys.now indices.old }
+    ensures { left (told result) indices.new ≡ left_by (λ x. not_found 14) keys.now indices.old }
 {
-    let last = keys.len();
-    lists::clear16(&mut indices[..last]);
-    if last == 0 {
-        return crate::refused(0, 0);
+    indices[..keys.len()].fill(0);
+    if keys.is_empty() {
+        return Ok(());
     }
-    crate::refused(14, 1)
+    Err(Refusal::NoUnit.at(1))
 }

@@ -1,5 +1,5 @@
 // The images of single bits: an image's bit stands at each input of its mask.
-ghost use Rattle.std.specs.Prelude.{◌≡◌, List, [], ◌∷◌, ◌++◌, ℕ, ◌-◌, ◌+◌, ◌^◌, ◌%◌, ◌≤◌, length, take, drop};
+ghost use Rattle.std.specs.Prelude.{◌≡◌, List, [], ◌∷◌, ◌++◌, ℕ, ◌-◌, ◌+◌, ◌^◌, ◌%◌, ◌≤◌, ◌<◌, length, take, drop};
 ghost use Rattle.std.specs.Int.Bits.{bit_xor};
 ghost use Rattle.std.specs.Int.Count.{ones};
 ghost use Rattle.vectors.specs.Bits.{place_of};
@@ -10,7 +10,7 @@ ghost use Rattle.record.specs.Inner.Formed.{InBounds, RightInputs};
 ghost use Rattle.many.specs.Inner.Images.{singles, image_masks, OnBits};
 
 use record::Record;
-use vectors::{Kind, MAX_INPUTS, MAX_VARIABLES, Variable};
+use vectors::{Kind, MAX_INPUTS, Variable};
 
 // The bit put at input i, or taken from it; an input that no word has is left out. The masks before it are ms, and its own is m.
 fn toggle(i: u8, bit: u64, images: &mut [u64])
@@ -19,10 +19,7 @@ fn toggle(i: u8, bit: u64, images: &mut [u64])
         → OnBits max_inputs (number_by (ms ++ (bit_xor m (place_of i % 2 ^ max_inputs) ∷ []))) images.new }
 {
     let b = i as usize;
-    if b == 0 {
-        return;
-    }
-    if MAX_INPUTS < b {
+    if b == 0 || MAX_INPUTS < b {
         return;
     }
     images[b - 1] ^= bit;
@@ -43,46 +40,31 @@ fn mark(kind: Kind, bit: u64, images: &mut [u64])
     }
 }
 
-// The masks of the variables from one place up to another, their bits from place at on.
-fn mark_variables(
-    variables: [Variable; MAX_VARIABLES],
-    from: usize,
-    to: usize,
-    at: usize,
-    images: &mut [u64],
-)
-    requires { (from ≤ to) × (to ≤ max_variables) × (at + (to - from) ≤ max_variables) × (length images.old ≡ max_inputs) }
+// The masks of variables, their bits from place at on.
+fn mark_variables(variables: &[Variable], at: usize, images: &mut [u64])
+    requires { (at + length variables.now ≤ max_variables) × (length images.old ≡ max_inputs) }
     ensures { (ms : List ℕ) → length ms ≡ at → OnBits max_inputs (number_by ms) images.old
-        → OnBits max_inputs (number_by (ms ++ masks_of (kinds_of (drop from (take to variables))))) images.new }
+        → OnBits max_inputs (number_by (ms ++ masks_of (kinds_of variables.now))) images.new }
 {
-    let mut i = from;
-    while i < to {
-        let v = variables[i];
-        let kind = v.kind;
-        let bit = 1u64 << (at + (i - from));
-        mark(kind, bit, images);
-        i += 1;
+    for (i, v) in variables.iter().enumerate() {
+        mark(v.kind, 1u64 << (at + i), images);
     }
 }
 
-// The kept inputs, each a mask of its own, their bits from place at on.
-fn mark_kept(kept: u64, at: usize, images: &mut [u64])
-    requires { (at + ones kept ≤ max_inputs) × (length images.old ≡ max_inputs) }
+// The kept ones of n inputs, each a mask of its own, their bits from place at on.
+fn mark_kept(n: usize, kept: u64, at: usize, images: &mut [u64])
+    requires { (at + ones kept ≤ max_inputs) × (length images.old ≡ max_inputs) × (n ≤ max_inputs) × (kept < 2 ^ n) }
     ensures { (ms : List ℕ) → length ms ≡ at → OnBits max_inputs (number_by ms) images.old
         → OnBits max_inputs (number_by (ms ++ singles max_inputs 0 kept)) images.new }
 {
     let mut rest = kept;
-    let mut j = 0;
     let mut q = at;
-    while rest != 0 {
-        let odd = rest % 2;
-        let b = j;
-        rest /= 2;
-        j += 1;
-        if odd != 0 {
-            images[b] ^= 1u64 << q;
+    for j in 0..n {
+        if rest % 2 != 0 {
+            images[j] ^= 1u64 << q;
             q += 1;
         }
+        rest /= 2;
     }
 }
 
@@ -93,8 +75,8 @@ pub(crate) fn images(unit: Record) -> [u64; MAX_INPUTS]
 {
     let variables = unit.variables;
     let mut images = [0u64; MAX_INPUTS];
-    mark_variables(variables, unit.n1, unit.p, 0, &mut images);
-    mark_variables(variables, 0, unit.n1, unit.p - unit.n1, &mut images);
-    mark_kept(unit.kept, unit.p, &mut images);
+    mark_variables(&variables[unit.n1..unit.p], 0, &mut images);
+    mark_variables(&variables[..unit.n1], unit.p - unit.n1, &mut images);
+    mark_kept(unit.n, unit.kept, unit.p, &mut images);
     images
 }

@@ -23,10 +23,8 @@ fn double(table: &mut [u64], span: usize, image: u64)
     ensures { (m : ℕ) → m < span → (get_or table.new m 0 ≡ get_or table.old m 0)
         × (get_or table.new (span + m) 0 ≡ bit_xor (get_or table.old m 0) image) }
 {
-    let mut m = 0;
-    while m < span {
+    for m in 0..span {
         table[span + m] = table[m] ^ image;
-        m += 1;
     }
 }
 
@@ -36,12 +34,10 @@ fn fill_one(images: &[u64], table: &mut [u64])
     ensures { (f : ℕ → ℕ) → Linear f → OnBits byte_bits f images.now → Below byte_values f table.new }
 {
     table[0] = 0;
-    let mut b = 0;
     let mut span = 1;
-    while b < BITS {
-        double(table, span, images[b]);
+    for image in images {
+        double(table, span, *image);
         span *= 2;
-        b += 1;
     }
 }
 
@@ -50,14 +46,12 @@ pub(crate) fn fill(images: &[u64], bytes: usize, tables: &mut [u64])
     requires { (length images.now ≡ max_inputs) × (bytes ≤ word_bytes) × (tables.old ≡ replicate table_words 0) }
     ensures { (f : ℕ → ℕ) → Linear f → OnBits max_inputs f images.now → Tabled bytes f tables.new }
 {
-    let mut t = 0;
-    while t < bytes {
+    for t in 0..bytes {
         let b = BITS * t;
         let m = VALUES * t;
         let b_end = b + BITS;
         let m_end = m + VALUES;
         fill_one(&images[b..b_end], &mut tables[m..m_end]);
-        t += 1;
     }
 }
 
@@ -87,12 +81,12 @@ fn of_seven(tables: &[u64], x: u64) -> u64
 }
 
 // The image of x, from those of its bytes. The eighth is read only where keys are wide: others have none.
-pub(crate) fn image(tables: &[u64], wide: bool, x: u64) -> u64
+pub(crate) fn image<const WIDE: bool>(tables: &[u64], x: u64) -> u64
     requires { length tables.now ≡ table_words }
-    ensures { (f : ℕ → ℕ) (bytes : ℕ) → Linear f → Tabled bytes f tables.now → x < 2 ^ (byte_bits * bytes) → Narrow wide x → result ≡ f x }
+    ensures { (f : ℕ → ℕ) (bytes : ℕ) → Linear f → Tabled bytes f tables.now → x < 2 ^ (byte_bits * bytes) → Narrow WIDE x → result ≡ f x }
 {
     let seven = of_seven(tables, x);
-    if wide {
+    if WIDE {
         return seven ^ of_byte(tables, 7, x);
     }
     seven

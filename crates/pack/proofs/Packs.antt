@@ -1,17 +1,24 @@
 -- What is packed, from what a text leaves. Assumes nothing.
 use Prim.Native.Nat.{ℕ}
+use native.Mathlib.Omega.{arith}
 use mathlib.Core.Path.{◌≡◌, refl, sym, ap, ◌∙◌}
 use mathlib.Core.Bool.{Bool, true, false}
 use mathlib.Core.List.{List}
 use borrow.Author.Tests.{eqb-true, eqb-false, eq-eqb, ne_eqb, ltb-true, ltb-false}
 use lib.Dec.{eqb, ltb}
 use lib.ListN.{length}
-use Rattle.build.specs.declared.Built.{Built}
+use Rattle.std.specs.Prelude.{Result, Ok, Err}
+use Rattle.std.specs.Result.{result_unwrap_or}
+use Rattle.refusal.specs.declared.Refusal.{Refusal}
+use Rattle.refusal.specs.declared.Refused.{Refused}
+use Rattle.refusal.specs.Refusal.{number_of}
+use Rattle.refusal.proofs.Numbers.{numbered}
+use Rattle.build.specs.Built.{Built, told}
 use Rattle.build.specs.Build.{Outcome}
 use Rattle.record.specs.declared.Record.{Record}
 use Rattle.record.specs.Tables.{Tables}
 use Rattle.record.specs.Formed.{sound}
-use Rattle.print.specs.Print.{fitted, refused_text}
+use Rattle.print.specs.Print.{printed, fitted, refused_text}
 use Rattle.print.proofs.Pages.Fitting.{fitted_short, fitted_long}
 use Rattle.file.specs.File.{file_of}
 use Rattle.file.specs.Write as write
@@ -40,6 +47,20 @@ module _ (b : Built) (t : Tables) (out : List ℕ) where
   pub built_refused : (b.refusal ≡ 0 → ⊥) → fitted (refused_text b.refusal b.place) out ≡ pack_built b t out
   unfolding pack_built
   built_refused n = rw (ne_eqb b.refusal 0 n, pack_built)
+
+module _ (t : Tables) (out : List ℕ) where
+  -- what was written counts, a refusal as nothing
+  counted : (r : Result ℕ Refusal) → result_unwrap_or r 0 ≡ (write.told r).length
+  counted (Ok length) = refl
+  counted (Err e) = refl
+
+  pub unit_packed : (u : Record) (r : Result ℕ Refusal) (target : List ℕ) (k : ℕ) → k ≡ result_unwrap_or r 0 → write.after (write.told r) target ≡ write.write_of u t out
+      → printed k target ≡ pack_built (told (Ok u)) t out
+  unit_packed u r target k e w =
+      ap (λ (n : ℕ). printed n target) (e ∙ counted r) ∙ ap filed w ∙ built_accepted (told (Ok u)) t out refl
+
+  pub refusal_packed : (r : Refused) → fitted (refused_text (number_of r.refusal) r.place) out ≡ pack_built (told (Err r)) t out
+  refusal_packed r = built_refused (told (Err r)) t out (λ z. omega (arith, numbered r.refusal))
 
 module _ (o : Outcome) where
   pub packed_accepted : o.built.refusal ≡ 0 → file_of o.built.unit o.tables ≡ packed o

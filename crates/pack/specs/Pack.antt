@@ -1,7 +1,7 @@
 -- A list packed: what is written for a text (SCOPE 14.15).
 use Rattle.std.specs.Prelude.{ℕ, true, false, List, eqb}
 use Rattle.record.specs.Tables.{Tables}
-use Rattle.build.specs.declared.Built.{Built}
+use Rattle.build.specs.Built.{Built}
 use Rattle.build.specs.Build.{Outcome}
 use Rattle.print.specs.Line.{line}
 use Rattle.print.specs.Print.{Printed, printed, fitted, refused_text}

@@ -1,5 +1,5 @@
 // Numbers in decimal.
-ghost use Rattle.std.specs.Prelude.{◌≡◌, ◌+◌, ◌≤◌, nat_abs, length};
+ghost use Rattle.std.specs.Prelude.{◌≡◌, ◌+◌, ◌≤◌, length};
 ghost use Rattle.print.specs.Decimal.{decimal};
 ghost use Rattle.print.specs.Inner.Written.{Written, max_place};
 
@@ -7,13 +7,7 @@ ghost use Rattle.print.specs.Inner.Written.{Written, max_place};
 fn digits(n: u64) -> usize
     ensures { result ≡ length (decimal n) }
 {
-    let mut k = 1;
-    let mut rest = n;
-    while 9 < rest {
-        rest /= 10;
-        k += 1;
-    }
-    k
+    n.max(1).ilog10() as usize + 1
 }
 
 // Writes n, the last digit first.
@@ -25,23 +19,10 @@ pub(crate) fn put(n: u64, out: &mut [u8], at: usize) -> usize
     if out.len() < end {
         return end;
     }
-    let mut i = end - 1;
     let mut rest = n;
-    while 9 < rest {
-        out[i] = 48 + (rest % 10) as u8;
+    for i in (at..end).rev() {
+        out[i] = b'0' + (rest % 10) as u8;
         rest /= 10;
-        i -= 1;
     }
-    out[i] = 48 + rest as u8;
     end
-}
-
-// A signed number without its sign.
-pub(crate) fn magnitude(n: i64) -> u64
-    ensures { result ≡ nat_abs n }
-{
-    if n < 0 {
-        return (-1 - n) as u64 + 1;
-    }
-    n as u64
 }

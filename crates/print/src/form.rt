@@ -7,7 +7,7 @@ ghost use Rattle.print.specs.Inner.Written.{Written, max_place};
 use crate::page::MAX_FIELDS;
 use crate::{decimal, line};
 
-const FIRST_LETTER: u8 = 65;
+const FIRST_LETTER: u8 = b'A';
 
 // A byte of a form: itself, or the number whose letter it is.
 fn piece(b: u8, numbers: &[u64], out: &mut [u8], at: usize) -> usize
@@ -29,10 +29,8 @@ fn pieces(form: &[u8], numbers: &[u64], out: &mut [u8]) -> usize
     ensures { Written out.old 0 (Sentence·sentence numbers.now form.now) out.new result }
 {
     let mut end = 0;
-    let mut i = 0;
-    while i < form.len() {
-        end = piece(form[i], numbers, out, end);
-        i += 1;
+    for b in form {
+        end = piece(*b, numbers, out, end);
     }
     end
 }

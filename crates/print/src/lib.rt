@@ -7,4 +7,4 @@ mod line;
 mod page;
 
 pub use form::sentence;
-pub use page::{MAX_BYTES, beside, lines, print, refused, text};
+pub use page::{MAX_BYTES, beside, lines, print, refused, refused_number, text};

@@ -1,11 +1,13 @@
 // A unit printed: first its length, and the bytes only where they fit.
 ghost use Rattle.std.specs.Prelude.{◌≡◌, ◌≤◌, length};
+ghost use Rattle.refusal.specs.Refusal.{number_of};
 ghost use Rattle.record.specs.Tables.{lent};
 ghost use Rattle.print.specs.Print.{page_of, refused_text, printed, fitted, print_of, max_fields, lines_of, beside_of};
 ghost use Rattle.print.specs.Inner.Written.{Written};
 
 use crate::line;
 use record::Record;
+use refusal::Refused;
 
 // The six lines, where they fit; the newline of a line goes with the name of the next. Answers how many bytes they take in any case.
 fn write_page(
@@ -23,14 +25,14 @@ fn write_page(
     ensures { Written out.old 0 (page_of numbers.now excess masks.now kept h.now g.now aux.now) out.new result }
 {
     let rest = [kept];
-    let counts = line::words64(b"unit", numbers, out, 0);
+    let counts = line::words(b"unit", numbers, out, 0);
     let head = line::signed_field(excess, out, counts);
-    let vars = line::words64(b"\nvars", masks, out, head);
-    let inputs = line::words64(b"\nrest", &rest, out, vars);
-    let rows = line::words16(b"\nh", h, out, inputs);
-    let cells = line::words16(b"\ng", g, out, rows);
-    let last = line::words64(b"\naux", aux, out, cells);
-    line::byte(10, out, last)
+    let vars = line::words(b"\nvars", masks, out, head);
+    let inputs = line::words(b"\nrest", &rest, out, vars);
+    let rows = line::words(b"\nh", h, out, inputs);
+    let cells = line::words(b"\ng", g, out, rows);
+    let last = line::words(b"\naux", aux, out, cells);
+    line::byte(b'\n', out, last)
 }
 
 // The page where it fits.
@@ -137,13 +139,20 @@ pub fn text(bytes: &[u8], out: &mut [u8]) -> usize
     line::bytes(bytes, out, 0)
 }
 
-// Prints a refusal: at most 50 bytes.
-pub fn refused(refusal: u8, place: usize, out: &mut [u8]) -> usize
+// Prints a refusal by its number and its place, whatever they are: at most 50 bytes.
+pub fn refused_number(refusal: u8, place: usize, out: &mut [u8]) -> usize
     ensures { printed result out.new ≡ fitted (refused_text refusal place) out.old }
 {
     let numbers = [refusal as u64, place as u64];
     let mut shown = [0u8; 50];
-    let named = line::words64(b"refused", &numbers, &mut shown, 0);
-    let end = line::byte(10, &mut shown, named);
+    let named = line::words(b"refused", &numbers, &mut shown, 0);
+    let end = line::byte(b'\n', &mut shown, named);
     text(&shown[..end], out)
+}
+
+// Prints a refusal.
+pub fn refused(refused: Refused, out: &mut [u8]) -> usize
+    ensures { printed result out.new ≡ fitted (refused_text (number_of refused.refusal) refused.place) out.old }
+{
+    refused_number(refused.refusal.number(), refused.place, out)
 }

@@ -12,8 +12,7 @@ use Rattle.lists.proofs.Finding.Equals.{FirstEqual, equal_first, first_equal, eq
 use Rattle.record.specs.declared.Record.{Record}
 use Rattle.record.specs.Tables.{Tables}
 use Rattle.record.specs.Holds.{index_of}
-use Rattle.lookup.specs.declared.Found.{Found}
-use Rattle.lookup.specs.Lookup.{found, lookup_of}
+use Rattle.lookup.specs.Lookup.{Found, found, lookup_of}
 use Rattle.build.specs.Build.{Outcome, refused, build_chosen}
 use Rattle.unit.specs.Demand1.{Same, First}
 use Rattle.unit.specs.Demand2.{ChosenBuild}

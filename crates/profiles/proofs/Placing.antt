@@ -12,17 +12,14 @@ use borrow.Author.Tests.{ltb-true, ltb-false, lt-ltb}
 use Rattle.lists.proofs.Tests.{or_false, true_iff}
 use Rattle.record.specs.declared.Record.{Record}
 use Rattle.record.specs.Tables.{Tables}
-use Rattle.lookup.specs.declared.Found.{Found}
-use Rattle.lookup.specs.Lookup.{lookup_of}
+use Rattle.lookup.specs.Lookup.{Found, lookup_of}
 use Rattle.lookup.proofs.Indices.{found_listed}
 use Rattle.profiles.specs.declared.Key.{Key}
 use Rattle.profiles.specs.declared.Whose.TheVariants.{House, Brand}
 use Rattle.profiles.specs.declared.Slab.{Slab}
 use Rattle.profiles.specs.declared.Room.{Room}
-use Rattle.profiles.specs.declared.Asked.{Asked}
-use Rattle.profiles.specs.declared.Held.{Held}
+use Rattle.profiles.specs.Place.{Asked, Held, slab_of, room_of, too_short, asked_of, held, refused, unless_refused, brand_else, chosen_from, place_of}
 use Rattle.profiles.specs.Key.{in_widths, packed}
-use Rattle.profiles.specs.Place.{slab_of, room_of, too_short, asked_of, held, refused, unless_refused, brand_else, chosen_from, place_of}
 use Rattle.profiles.specs.View.{Within}
 
 unless_given : (number : ℕ) (at : Held) → (number ≡ 0 → ⊥) → refused number ≡ unless_refused number at

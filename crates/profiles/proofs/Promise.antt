@@ -11,8 +11,7 @@ use denote.Ref.{Bor}
 use Rattle.lists.specs.Members.{In}
 use Rattle.record.specs.Tables.{Tables}
 use Rattle.record.specs.Holds.{index_of}
-use Rattle.lookup.specs.declared.Found.{Found}
-use Rattle.lookup.specs.Lookup.{found, lookup_of}
+use Rattle.lookup.specs.Lookup.{Found, found, lookup_of}
 use Rattle.build.specs.Build.{build_chosen}
 use Rattle.unit.specs.Demand2.{ChosenBuild}
 use Rattle.unit.proofs.Demand2.{chosen_demand_2}
@@ -21,9 +20,8 @@ use Rattle.file.specs.Facts.{Roomy, carried_chosen}
 use Rattle.file.proofs.Loading.Demands.{carried_chosen_demand_2}
 use Rattle.profiles.specs.declared.Key.{Key}
 use Rattle.profiles.specs.declared.Whose.TheVariants.{House, Brand}
-use Rattle.profiles.specs.declared.Held.{Held}
+use Rattle.profiles.specs.Place.{Held, slab_of, held, refused, brand_else, chosen_from}
 use Rattle.profiles.specs.Key.{in_widths, packed}
-use Rattle.profiles.specs.Place.{slab_of, held, refused, brand_else, chosen_from}
 use Rattle.profiles.specs.View.{of, PartOf, Within, Views}
 use Rattle.profiles.specs.Facts.{Sure, Slabs, BothBuilt, place_in, RecordAt, NothingAt, DayApart, Promised, PromisedOf}
 use Rattle.profiles.proofs.Placing.{place_wide, place_looked, place_within}

@@ -9,10 +9,9 @@ use Rattle.recover.specs.Recover.{recover_of}
 use Rattle.unit.specs.Demand2.{ChosenBuild, Demand2Chosen}
 use Rattle.profiles.specs.declared.Key.{Key}
 use Rattle.profiles.specs.declared.Whose.TheVariants.{House, Brand}
-use Rattle.profiles.specs.declared.Held.{Held}
+use Rattle.profiles.specs.Place.{Held, slab_of, room_of, too_short, held, place_of}
 use Rattle.profiles.specs.Key.{in_widths}
 use Rattle.profiles.specs.Keys.{keys_by}
-use Rattle.profiles.specs.Place.{slab_of, room_of, too_short, held, place_of}
 use Rattle.profiles.specs.View.{Views}
 
 -- SCOPE 21.2: keys within their widths have one word exactly when they are equal in every field

@@ -1,7 +1,16 @@
 -- Profile keys (SCOPE 21.1, 21.2): the widths of the fields, and the packing.
-use Rattle.std.specs.Prelude.{ℕ, ◌+◌, ◌*◌, ◌^◌, Bool, true, false, ◌&&◌, List, ltb, get_or}
+use Rattle.std.specs.Prelude.{ℕ, ◌+◌, ◌*◌, ◌^◌, Bool, true, false, ◌&&◌, Option, None, Some, List, ltb, get_or}
 use Rattle.profiles.specs.declared.Key.{Key}
-use Rattle.profiles.specs.declared.Word.{Word}
+
+-- the word of a key, and whether it has one; 0 where it has none
+pub record Word : Type 0 where
+  pub good : Bool
+  pub word : ℕ
+
+-- a word, or none
+abbrev pub told : Option ℕ → Word
+told None = record { good = false; word = 0 }
+told (Some word) = record { good = true; word = word }
 
 -- SCOPE 21.1: the bits of each field, and of all five together
 abbrev pub press_bits : ℕ

@@ -1,17 +1,35 @@
 -- Where the profile of a key is (SCOPE 21.4 to 21.7): whose slab, and its number there.
-use Rattle.std.specs.Prelude.{ℕ, zero, suc, ◌/◌, Bool, true, false, ◌||◌, List, eqb, ltb, length}
+use Rattle.std.specs.Prelude.{ℕ, zero, suc, ◌/◌, Bool, true, false, ◌||◌, Result, Ok, Err, List, eqb, ltb, length}
+use Rattle.refusal.specs.declared.Refusal.{Refusal}
+use Rattle.refusal.specs.Refusal.{number_of}
 use Rattle.record.specs.declared.Record.{Record}
 use Rattle.record.specs.Tables.{Tables}
-use Rattle.lookup.specs.declared.Found.{Found}
-use Rattle.lookup.specs.Lookup.{lookup_of}
+use Rattle.lookup.specs.Lookup.{Found, lookup_of}
 use Rattle.profiles.specs.declared.Key.{Key}
 use Rattle.profiles.specs.declared.Whose.{Whose}
 use Rattle.profiles.specs.declared.Whose.TheVariants.{House, Brand}
 use Rattle.profiles.specs.declared.Slab.{Slab}
 use Rattle.profiles.specs.declared.Room.{Room}
-use Rattle.profiles.specs.declared.Asked.{Asked}
-use Rattle.profiles.specs.declared.Held.{Held}
+use Rattle.profiles.specs.declared.Held.{Held as HeldAt}
 use Rattle.profiles.specs.Key.{in_widths, packed}
+
+-- what is asked of the units: a refusal, 30 or 31, or the word of the key
+pub record Asked : Type 0 where
+  pub refusal : ℕ
+  pub word : ℕ
+
+-- a word or a refusal by name
+abbrev pub asked : Result ℕ Refusal → Asked
+asked (Ok word) = record { refusal = 0; word = word }
+asked (Err r) = record { refusal = number_of r; word = 0 }
+
+-- where a key's profile is: the refusal's number and its place, 0 and 0 where the call is accepted; whose slab, and the number of the profile there
+-- from 1. The number is 0, of the house, for an unknown key and beside a refusal
+pub record Held : Type 0 where
+  pub refusal : ℕ
+  pub place : ℕ
+  pub whose : Whose
+  pub number : ℕ
 
 -- a slab of those bytes, with the record of its unit and the bytes of one profile
 abbrev pub slab_of : Record → ℕ → List ℕ → Slab
@@ -40,6 +58,11 @@ held whose number = record { refusal = 0; place = 0; whose = whose; number = num
 -- SCOPE 21.7: beside a refusal the same
 abbrev pub refused : ℕ → Held
 refused number = record { refusal = number; place = 0; whose = House; number = 0 }
+
+-- a place or a refusal by name
+abbrev pub told : Result HeldAt Refusal → Held
+told (Ok at) = held at.whose at.number
+told (Err r) = refused (number_of r)
 
 -- SCOPE 21.5: a lookup's own refusal, or the place
 abbrev pub unless_refused : ℕ → Held → Held

@@ -3,7 +3,7 @@ use Rattle.std.specs.Prelude.{ℕ, zero, suc, ◌+◌, ◌-◌, ◌*◌, ◌≤�
 use Rattle.std.specs.Borrow.{Bor}
 use Rattle.profiles.specs.declared.Whose.{Whose}
 use Rattle.profiles.specs.declared.Whose.TheVariants.{House, Brand}
-use Rattle.profiles.specs.declared.Held.{Held}
+use Rattle.profiles.specs.Place.{Held}
 
 -- the brand's or the house's
 abbrev pub of : {A : Type 0} → Whose → A → A → A

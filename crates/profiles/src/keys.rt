@@ -1,48 +1,43 @@
 // Keys: their widths, their packing, and the build of a list of them.
 ghost use Rattle.std.specs.Prelude.{◌≡◌, true, map, ◌≤◌, length, take};
+ghost use Rattle.std.specs.List.{list_all};
 ghost use Rattle.lists.specs.Members.{every};
 ghost use Rattle.record.specs.Tables.{lent};
+ghost use Rattle.build.specs.Built.{told};
 ghost use Rattle.build.specs.Build.{after};
+ghost use Rattle.profiles.specs.Key as spec;
 ghost use Rattle.profiles.specs.Key.{in_widths, packed, word_of, key_of};
 ghost use Rattle.profiles.specs.Keys.{build_keys};
 
-use crate::{Key, Word};
-use unit::Built;
+use crate::Key;
+use unit::{Record, Refusal, Refused};
 use vectors::MAX_WORDS;
 
 // The bits of a packed key.
 const KEY_BITS: usize = 56;
 
 // The key that five words say, in the order of the fields.
-pub fn key_of(words: [u32; 5]) -> Key
-    ensures { result ≡ key_of words }
-{
-    Key {
-        press: words[0],
-        ink: words[1],
-        substrate: words[2],
-        screen: words[3],
-        day: words[4],
+impl From<[u32; 5]> for Key {
+    ghost from_gives = { λ words key. key ≡ key_of words };
+
+    fn from(words: [u32; 5]) -> Key {
+        let [press, ink, substrate, screen, day] = words;
+        Key {
+            press,
+            ink,
+            substrate,
+            screen,
+            day,
+        }
     }
 }
 
 // Whether no field is over its width.
+#[tactic(auto, unfolding(crate::specs::Key::in_widths))]
 pub(crate) fn in_widths(key: Key) -> bool
     ensures { result ≡ in_widths key }
 {
-    if 256 <= key.press {
-        return false;
-    }
-    if 4096 <= key.ink {
-        return false;
-    }
-    if 4096 <= key.substrate {
-        return false;
-    }
-    if 256 <= key.screen {
-        return false;
-    }
-    key.day < 65536
+    key.press < 256 && key.ink < 4096 && key.substrate < 4096 && key.screen < 256 && key.day < 65536
 }
 
 // The fields side by side, press in the lowest bits.
@@ -55,44 +50,33 @@ pub(crate) fn pack(key: Key) -> u64
     key.press as u64 + 256 * above_press
 }
 
-// The word of a key, and whether it has one: no field is over its width.
-pub fn word_of(key: Key) -> Word
-    ensures { result ≡ word_of key }
+// The word of a key; none where a field is over its width.
+#[tactic(auto, unfolding(crate::specs::Key::word_of))]
+pub fn word_of(key: Key) -> Option<u64>
+    ensures { spec.told result ≡ word_of key }
 {
-    if !in_widths(key) {
-        return Word {
-            good: false,
-            word: 0,
-        };
+    if in_widths(key) {
+        Some(pack(key))
+    } else {
+        None
     }
-    let word = pack(key);
-    Word { good: true, word }
 }
 
 // Whether no key has a field over its width.
 fn all_in_widths(keys: &[[u32; 5]]) -> bool
-    ensures { result ≡ every in_widths (map key_of keys.now) }
+    ensures { result ≡ list_all (λ words. in_widths (key_of words)) keys.now }
 {
-    let mut i = 0;
-    while i < keys.len() {
-        if !in_widths(key_of(keys[i])) {
-            return false;
-        }
-        i += 1;
-    }
-    true
+    keys.iter().all(|words| in_widths(Key::from(*words)))
 }
 
-// The first m keys, packed, in front of the words.
-fn pack_all(keys: &[[u32; 5]], m: usize, words: &mut [u64])
+// The keys, packed, in front of the words.
+fn pack_all(keys: &[[u32; 5]], words: &mut [u64])
     requires widths { every in_widths (map key_of keys.now) ≡ true }
-    requires sizes { (m ≤ length keys.now) × (m ≤ length words.old) }
-    ensures { take m words.new ≡ take m (map packed (map key_of keys.now)) }
+    requires size { length keys.now ≤ length words.old }
+    ensures { take (length keys.now) words.new ≡ map packed (map key_of keys.now) }
 {
-    let mut i = 0;
-    while i < m {
-        words[i] = pack(key_of(keys[i]));
-        i += 1;
+    for (i, key) in keys.iter().enumerate() {
+        words[i] = pack(Key::from(*key));
     }
 }
 
@@ -105,22 +89,16 @@ pub fn build(
     h: &mut [u16],
     g: &mut [u16],
     aux: &mut [u64],
-) -> Built
-    ensures { after result h.new g.new aux.new
+) -> Result<Record, Refused>
+    ensures { after (told result) h.new g.new aux.new
         ≡ build_keys degree cells allowance (map key_of keys.now) (lent h.old g.old aux.old) }
 {
     if !all_in_widths(keys) {
-        let unit = record::blank();
-        return Built {
-            refusal: 30,
-            place: 0,
-            needed: 0,
-            unit,
-        };
+        return Err(Refusal::Width.at(0));
     }
     // one key more than a unit can have is enough for the build to refuse the list
-    let m = lists::least(keys.len(), MAX_WORDS);
+    let m = keys.len().min(MAX_WORDS);
     let mut words = [0u64; MAX_WORDS];
-    pack_all(keys, m, &mut words);
+    pack_all(&keys[..m], &mut words);
     unit::build_chosen(KEY_BITS, degree, cells, allowance, &words[..m], h, g, aux)
 }

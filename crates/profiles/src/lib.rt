@@ -7,11 +7,11 @@ use unit::Record;
 mod keys;
 mod places;
 
-pub use keys::{build, key_of, word_of};
+pub use keys::{build, word_of};
 pub use places::{ask, find, profile};
 
 // A profile key. A field can be over its width: press has 8 bits, ink 12, substrate 12, screen 8, and the day, counted from 1 January 2000, 16.
-#[derive(Clone, Copy)]
+#[derive(Clone, Copy, PartialEq, Eq, Debug)]
 pub struct Key {
     pub press: u32,
     pub ink: u32,
@@ -20,15 +20,8 @@ pub struct Key {
     pub day: u32,
 }
 
-// The word of a key; 0, and not good, where a field is over its width.
-#[derive(Clone, Copy)]
-pub struct Word {
-    pub good: bool,
-    pub word: u64,
-}
-
 // Whose slab.
-#[derive(Clone, Copy)]
+#[derive(Clone, Copy, PartialEq, Eq, Debug)]
 pub enum Whose {
     House,
     Brand,
@@ -43,26 +36,16 @@ pub struct Slab {
 }
 
 // What a slab's length is judged by: the keys of its unit, the bytes of one profile, the bytes of the slab.
-#[derive(Clone, Copy)]
+#[derive(Clone, Copy, PartialEq, Eq, Debug)]
 pub struct Room {
     pub keys: usize,
     pub size: usize,
     pub length: usize,
 }
 
-// What is asked of the units: a refusal, 30 or 31, or the word of the key.
-#[derive(Clone, Copy)]
-pub struct Asked {
-    pub refusal: u8,
-    pub word: u64,
-}
-
-// Where a key's profile is. The refusal's number and its place, 0 and 0 where the call is accepted; whose slab, and the number of the profile there
-// from 1. The number is 0, of the house, for an unknown key and beside a refusal.
-#[derive(Clone, Copy)]
+// Where a key's profile is: whose slab, and the number of the profile there from 1. The number is 0, of the house, for an unknown key.
+#[derive(Clone, Copy, PartialEq, Eq, Debug)]
 pub struct Held {
-    pub refusal: u8,
-    pub place: usize,
     pub whose: Whose,
     pub number: usize,
 }

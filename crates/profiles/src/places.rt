@@ -2,20 +2,22 @@
 ghost use Rattle.std.specs.Prelude.{◌≡◌, ◌*◌, ◌≤◌, length};
 ghost use Rattle.record.specs.Tables.{lent};
 ghost use Rattle.profiles.specs.Place as spec;
-ghost use Rattle.profiles.specs.Place.{slab_of, place_of};
+ghost use Rattle.profiles.specs.Place.{slab_of, room_of, told, place_of};
 ghost use Rattle.profiles.specs.View.{PartOf, Within, Views};
 
-use crate::{Asked, Held, Key, Room, Slab, Whose, keys};
-use unit::Record;
+use crate::{Held, Key, Room, Slab, Whose, keys};
+use unit::{Record, Refusal};
 
-fn refused(refusal: u8) -> Held
-    ensures { result ≡ spec.refused refusal }
-{
-    Held {
-        refusal,
-        place: 0,
-        whose: Whose::House,
-        number: 0,
+impl Slab {
+    // What its length is judged by.
+    fn room(self) -> Room
+        ensures { result ≡ room_of self }
+    {
+        Room {
+            keys: self.unit.k,
+            size: self.size,
+            length: self.length,
+        }
     }
 }
 
@@ -29,38 +31,24 @@ fn too_short(room: Room) -> bool
     if size == 0 {
         return true;
     }
-    if keys < 0x1_0000 {
-        if size < 0x1_0000_0000_0000 {
-            return room.length < keys * size;
-        }
+    if keys < 0x1_0000 && size < 0x1_0000_0000_0000 {
+        return room.length < keys * size;
     }
     room.length / size < keys
 }
 
 // The refusals 30 and 31, or the word that the units are asked for.
-pub fn ask(brand: Room, house: Room, key: Key) -> Asked
-    ensures { result ≡ spec.asked_of brand house key }
+#[tactic(auto, unfolding(crate::specs::Place::asked_of))]
+pub fn ask(brand: Room, house: Room, key: Key) -> Result<u64, Refusal>
+    ensures { spec.asked result ≡ spec.asked_of brand house key }
 {
     if !keys::in_widths(key) {
-        return Asked {
-            refusal: 30,
-            word: 0,
-        };
+        return Err(Refusal::Width);
     }
-    if too_short(brand) {
-        return Asked {
-            refusal: 31,
-            word: 0,
-        };
+    if too_short(brand) || too_short(house) {
+        return Err(Refusal::ShortSlab);
     }
-    if too_short(house) {
-        return Asked {
-            refusal: 31,
-            word: 0,
-        };
-    }
-    let word = keys::pack(key);
-    Asked { refusal: 0, word }
+    Ok(keys::pack(key))
 }
 
 // Where the profile of a key is: in the brand's slab if the brand's unit knows it, else in the house's.
@@ -74,47 +62,23 @@ pub fn find(
     house_g: &[u16],
     house_aux: &[u64],
     key: Key,
-) -> Held
-    ensures { result ≡ place_of brand (lent brand_h.now brand_g.now brand_aux.now)
+) -> Result<Held, Refusal>
+    ensures { told result ≡ place_of brand (lent brand_h.now brand_g.now brand_aux.now)
         house (lent house_h.now house_g.now house_aux.now) key }
 {
-    let brand_room = Room {
-        keys: brand.unit.k,
-        size: brand.size,
-        length: brand.length,
-    };
-    let house_room = Room {
-        keys: house.unit.k,
-        size: house.size,
-        length: house.length,
-    };
-    let asked = ask(brand_room, house_room, key);
-    if asked.refusal != 0 {
-        return refused(asked.refusal);
-    }
-    let x = asked.word;
-    let first = unit::lookup(brand.unit, brand_h, brand_g, brand_aux, x);
-    if first.refusal != 0 {
-        return refused(first.refusal);
-    }
-    if first.index != 0 {
-        return Held {
-            refusal: 0,
-            place: 0,
+    let x = ask(brand.room(), house.room(), key)?;
+    let first = unit::lookup(brand.unit, brand_h, brand_g, brand_aux, x)?;
+    if first != 0 {
+        return Ok(Held {
             whose: Whose::Brand,
-            number: first.index,
-        };
+            number: first,
+        });
     }
-    let second = unit::lookup(house.unit, house_h, house_g, house_aux, x);
-    if second.refusal != 0 {
-        return refused(second.refusal);
-    }
-    Held {
-        refusal: 0,
-        place: 0,
+    let second = unit::lookup(house.unit, house_h, house_g, house_aux, x)?;
+    Ok(Held {
         whose: Whose::House,
-        number: second.index,
-    }
+        number: second,
+    })
 }
 
 // The profile with that number of a slab; no byte, at the slab's start, for the number 0.
@@ -136,11 +100,10 @@ fn view<'a>(
     house: &'a [u8],
     house_size: usize,
 ) -> &'a [u8]
-    requires { Within held (length brand.now) brand_size (length house.now) house_size }
-    ensures { Views held brand.entry brand_size house.entry house_size result }
+    requires { Within (spec.held held.whose held.number) (length brand.now) brand_size (length house.now) house_size }
+    ensures { Views (spec.held held.whose held.number) brand.entry brand_size house.entry house_size result }
 {
-    let whose = held.whose;
-    match whose {
+    match held.whose {
         Whose::House => part(held.number, house_size, house),
         Whose::Brand => part(held.number, brand_size, brand),
     }
@@ -177,8 +140,11 @@ pub fn profile<'a>(
         size: house_size,
         length: house_slab.len(),
     };
-    let held = find(
+    let found = find(
         brand_side, brand_h, brand_g, brand_aux, house_side, house_h, house_g, house_aux, key,
     );
-    view(held, brand_slab, brand_size, house_slab, house_size)
+    match found {
+        Ok(held) => view(held, brand_slab, brand_size, house_slab, house_size),
+        Err(_) => part(0, house_size, house_slab),
+    }
 }

@@ -1,8 +1,12 @@
 -- What the tests of a well-formed unit say. Assumes nothing.
-use Prim.Native.Nat.{ℕ, ◌-◌, ◌^◌, ◌≤◌}
+use Prim.Native.Nat.{ℕ, suc, ◌-◌, ◌^◌, ◌≤◌}
 use mathlib.Core.Path.{◌≡◌, refl, sym, ◌∙◌}
-use mathlib.Core.Bool.{Bool, true, false, ◌&&◌}
-use borrow.Author.Tests.{ltb-true, ltb-false, leb-true, eqb-true, not-true}
+use mathlib.Core.Bool.{Bool, true, false, not, ◌&&◌}
+use Rattle.std.specs.Prelude.{Option, None, Some}
+use Rattle.std.specs.Option.{is_some}
+use Rattle.lists.specs.First.{place_number}
+use native.Mathlib.Omega.{arith}
+use borrow.Author.Tests.{ltb-true, ltb-false, leb-true, eqb-true, not-true, ne_eqb}
 use lib.Count.{ones}
 use lib.Dec.{eqb, ltb}
 use Rattle.lists.proofs.Tests.{and_true, and_unit, or_false}
@@ -18,6 +22,13 @@ use Rattle.record.specs.Inner.Formed.{InBounds, RightInputs, WellFormed}
 -- what is not outside is low to high
 pub inside : (low high x : ℕ) → outside low high x ≡ false → (low ≤ x) × (x ≤ high)
 inside low high x h = let o = or_false _ _ h in (ltb-false x low o.0, ltb-false high x o.1)
+
+-- a place that is none, as its number
+pub none_is : (o : Option ℕ) (b : Bool) → is_some o ≡ not b → b ≡ eqb (place_number o) 0
+none_is None true e = refl
+none_is None false e = cc
+none_is (Some i) true e = cc
+none_is (Some i) false e = sym (ne_eqb (suc i) 0 (λ z. omega arith))
 
 -- variables that are not too many
 pub record Few (p n1 : ℕ) : Type 0 where

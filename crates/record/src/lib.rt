@@ -13,14 +13,15 @@ ghost use Rattle.record.specs.Inner.Parts.{part_at};
 use vectors::{MAX_CELLS, MAX_INPUTS, MAX_VARIABLES, MAX_VECTORS, Part, Variable};
 
 // Whether a build left the unit, or vectors were added to it since.
-#[derive(Clone, Copy)]
+#[derive(Clone, Copy, PartialEq, Eq, Debug)]
 pub enum Mark {
     Built,
     Amended,
 }
 
 // What a build leaves beside the tables; cells is L. The part marks in it are set from n1, and nothing reads them.
-#[derive(Clone, Copy)]
+// The slots and their number p stand side by side: no heap, and `record_of` says what stands in the slots past p.
+#[derive(Clone, Copy, PartialEq, Eq, Debug)]
 pub struct Record {
     pub n: usize,
     pub p: usize,
@@ -35,23 +36,27 @@ pub struct Record {
 }
 
 // A mark as a number, in a file and in the record for C.
-pub fn mark_number(mark: Mark) -> u8
-    ensures { result ≡ mark_number mark }
-{
-    match mark {
-        Mark::Built => 0,
-        Mark::Amended => 1,
+impl From<Mark> for u8 {
+    ghost from_gives = { λ mark number. number ≡ mark_number mark };
+
+    fn from(mark: Mark) -> u8 {
+        match mark {
+            Mark::Built => 0,
+            Mark::Amended => 1,
+        }
     }
 }
 
-// The mark that a number says.
-pub fn mark_of(number: u64) -> Mark
-    ensures { result ≡ mark_of number }
-{
-    if number == 0 {
-        Mark::Built
-    } else {
-        Mark::Amended
+// The mark that a number says: any but 0 is amended.
+impl From<u64> for Mark {
+    ghost from_gives = { λ number mark. mark ≡ mark_of number };
+
+    fn from(number: u64) -> Mark {
+        if number == 0 {
+            Mark::Built
+        } else {
+            Mark::Amended
+        }
     }
 }
 
@@ -78,26 +83,18 @@ pub fn blank() -> Record
 pub fn index(word: u16) -> usize
     ensures { result ≡ index_in word }
 {
-    word as usize
+    usize::from(word)
 }
 
 // Whether the record's numbers are in bounds.
 fn in_bounds(unit: Record) -> bool
     ensures { result ≡ is_in_bounds unit }
 {
-    if vectors::outside(1, MAX_INPUTS, unit.n) {
-        return false;
-    }
-    if vectors::outside(1, MAX_VECTORS, unit.k) {
-        return false;
-    }
-    if vectors::outside(1, MAX_CELLS, unit.cells) {
-        return false;
-    }
-    if unit.n < unit.p {
-        return false;
-    }
-    !vectors::too_many(unit.p, unit.n1)
+    !vectors::outside(1, MAX_INPUTS, unit.n)
+        && !vectors::outside(1, MAX_VECTORS, unit.k)
+        && !vectors::outside(1, MAX_CELLS, unit.cells)
+        && unit.p <= unit.n
+        && !vectors::too_many(unit.p, unit.n1)
 }
 
 // Whether there are n - p kept inputs, all within n.
@@ -105,77 +102,49 @@ fn right_kept(unit: Record) -> bool
     requires { InBounds unit }
     ensures { result ≡ right_kept unit }
 {
-    if u64::count_ones(unit.kept) as usize != unit.n - unit.p {
-        return false;
-    }
-    !vectors::beyond(unit.n, unit.kept)
+    unit.kept.count_ones() as usize == unit.n - unit.p && !vectors::beyond(unit.n, unit.kept)
 }
 
 // Whether the tables have the rows, the cells and the vectors. No slice has 2^64 words.
+// The three tables are three parameters, here and in every crate above: C lends three, and README's calls name them.
 pub fn long_enough(unit: Record, h: &[u16], g: &[u16], aux: &[u64]) -> bool
     ensures { result ≡ long_enough unit (lent h.now g.now aux.now) }
 {
-    if MAX_INPUTS <= unit.n1 {
-        return false;
-    }
-    if h.len() < 1usize << unit.n1 {
-        return false;
-    }
-    if g.len() < unit.cells {
-        return false;
-    }
-    unit.k < aux.len()
+    unit.n1 < MAX_INPUTS
+        && 1usize << unit.n1 <= h.len()
+        && unit.cells <= g.len()
+        && unit.k < aux.len()
 }
 
 // Whether a unit is well formed but for its variables. Lookup tests those while it takes their values.
 pub fn framed(unit: Record, h: &[u16], g: &[u16], aux: &[u64]) -> bool
     ensures { result ≡ framed_by unit (lent h.now g.now aux.now) }
 {
-    if !in_bounds(unit) {
-        return false;
-    }
-    if !right_kept(unit) {
-        return false;
-    }
-    long_enough(unit, h, g, aux)
+    in_bounds(unit) && right_kept(unit) && long_enough(unit, h, g, aux)
 }
 
 pub fn well_formed(unit: Record, h: &[u16], g: &[u16], aux: &[u64]) -> bool
     ensures { result ≡ well_formed unit (lent h.now g.now aux.now) }
 {
-    if !framed(unit, h, g, aux) {
-        return false;
-    }
-    let variables = unit.variables;
-    vectors::first_faulty(unit.n as u8, variables, unit.p) == 0
+    framed(unit, h, g, aux) && vectors::first_faulty(unit.n as u8, unit.variables, unit.p).is_none()
 }
 
 // Whether a record's numbers are in bounds, and no variable is faulty or an XOR of earlier ones.
 pub fn right(unit: Record) -> bool
     ensures { result ≡ right_record unit }
 {
-    if !in_bounds(unit) {
-        return false;
-    }
-    let variables = unit.variables;
-    if vectors::first_faulty(unit.n as u8, variables, unit.p) != 0 {
-        return false;
-    }
-    span::first_dependent(unit.n, variables, unit.p) == 0
+    in_bounds(unit)
+        && vectors::first_faulty(unit.n as u8, unit.variables, unit.p).is_none()
+        && span::first_dependent(unit.n, unit.variables, unit.p).is_none()
 }
 
 // Whether a unit is well formed, its variables are independent, and its kept inputs those of the rule. Those of the rule are n - p, within n.
 pub fn sound(unit: Record, h: &[u16], g: &[u16], aux: &[u64]) -> bool
     ensures { result ≡ Formed·sound unit (lent h.now g.now aux.now) }
 {
-    if !right(unit) {
-        return false;
-    }
-    let variables = unit.variables;
-    if unit.kept != span::kept_inputs(unit.n, variables, unit.p) {
-        return false;
-    }
-    long_enough(unit, h, g, aux)
+    right(unit)
+        && unit.kept == span::kept_inputs(unit.n, unit.variables, unit.p)
+        && long_enough(unit, h, g, aux)
 }
 
 // The part mark of place i.
@@ -194,34 +163,27 @@ pub fn marked(
     ensures { result ≡ variables_of n1 (kinds_of (take p variables)) }
 {
     let mut m = vectors::blank_variables();
-    let last = lists::least(p, MAX_VARIABLES);
-    let mut i = 0;
-    while i < last {
-        let v = variables[i];
-        let kind = v.kind;
+    for i in 0..p.min(MAX_VARIABLES) {
         let part = part_at(i, n1);
-        m[i] = Variable { kind, part };
-        i += 1;
+        m[i] = Variable {
+            part,
+            ..variables[i]
+        };
     }
     m
 }
 
 // The smallest q with 2^q at least m.
-fn log2_up(m: u64) -> u64
+fn log2_up(m: u64) -> u32
     requires { m ≤ 2 ^ (max_inputs - 1) }
     ensures { result ≡ log2_up m }
 {
-    let mut q: u64 = 0;
-    while (1u64 << q) < m {
-        q += 1;
-    }
-    q
+    m.next_power_of_two().ilog2()
 }
 
 // How many variables more than the floor for k vectors; below 0 where they are fewer.
 pub fn excess(p: u32, k: u32) -> i64
     ensures { result ≡ excess_of p k }
 {
-    let floor = log2_up(k as u64);
-    p as i64 - floor as i64
+    i64::from(p) - i64::from(log2_up(u64::from(k)))
 }

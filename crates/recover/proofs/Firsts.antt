@@ -1,6 +1,7 @@
 -- The first cells of all indices, marked from the last cell to the first. Assumes nothing.
 use Prim.Native.Nat.{ℕ, zero, suc, ◌+◌, ◌-◌, ◌≤◌, ◌<◌}
 use native.Mathlib.Nat.{add-zero}
+use native.Mathlib.Numerals.{add-one}
 use native.Mathlib.Omega.{arith}
 use mathlib.Core.Path.{◌≡◌, refl, sym, ap, ◌∙◌}
 use mathlib.Core.Bool.{Bool, true, false}
@@ -9,7 +10,10 @@ use borrow.Author.Tests.{eqb-true, eqb-false, ne_eqb}
 use lib.Dec.{eqb}
 use lib.ListN.{length, get_or, take, drop, set, replicate, length-set, length-replicate, get_or-replicate}
 use lib.Seq.{drop-cons, drop-length, get_or-set_same, get_or-set_other, ext_get_or}
-use Rattle.lists.specs.First.{first_in, first_of}
+use Rattle.std.specs.List.{position}
+use Rattle.std.proofs.lemmas.List.{map-id}
+use Rattle.lists.specs.First.{first_in, first_of, place_number}
+use Rattle.lists.proofs.Finding.Places.{place_first}
 use Rattle.lists.proofs.Finding.Firsts.{first_here, first_on}
 use Rattle.vectors.specs.Bounds.{max_words}
 use Rattle.record.specs.declared.Record.{Record}
@@ -17,6 +21,13 @@ use Rattle.record.specs.Tables.{Tables, index_in}
 use Rattle.record.specs.Formed.{sound}
 use Rattle.recover.specs.Recover.{first_holding}
 use Rattle.recover.specs.Every.{firsts_from, firsts_in}
+
+abbrev test : ℕ → List ℕ → ℕ → Bool
+test x before w = eqb (index_in w) x
+
+-- the first of the cells that holds an index, by its place
+pub holding_place : (cells : List ℕ) (i : ℕ) → first_holding cells i ≡ place_number (position (λ w. eqb (index_in w) i) cells)
+holding_place cells i = sym (place_first (λ (w : ℕ). w) (λ w. eqb w i) cells ∙ ap (first_of (test i)) (map-id cells))
 
 pub firsts_length : (cells : List ℕ) (i m : ℕ) → length (firsts_from cells i m) ≡ m
 unfolding firsts_from
@@ -43,9 +54,6 @@ module _ (u : Record) (t : Tables) (old : List ℕ) where
   unsound_firsts s = rw (s, firsts_in)
 
 -- ---- marked one after another
-
-abbrev test : ℕ → List ℕ → ℕ → Bool
-test x before w = eqb (index_in w) x
 
 -- l has for each of m indices the first of the cells from c on that holds it
 pub record Marking (g : List ℕ) (m : ℕ) (l : List ℕ) (c : ℕ) : Type 0 where
@@ -86,8 +94,8 @@ module _ {g : List ℕ} {m : ℕ} {l : List ℕ} where
     earlier : c ≡ suc (c - 1)
     earlier = omega arith
 
-    pub marking_more : (i : ℕ) → i ≡ index_in (get_or g (c - 1) 0) → i < m → Marking g m (set l i c) (c - 1)
-    marking_more i e b = rw (sym earlier) at (marked (c - 1) (rw earlier at s) i e b)
+    pub marking_more : (i : ℕ) → i ≡ index_in (get_or g (c - 1) 0) → i < m → Marking g m (set l i (c - 1 + 1)) (c - 1)
+    marking_more i e b = rw add-one (marked (c - 1) (rw earlier at s) i e b)
 
     pub marking_past : (i : ℕ) → i ≡ index_in (get_or g (c - 1) 0) → m ≤ i → Marking g m l (c - 1)
     marking_past i e b = passed (c - 1) (rw earlier at s) (omega arith)

@@ -6,9 +6,8 @@ use mathlib.Core.Path.{◌≡◌, refl, sym, ◌∙◌}
 use mathlib.Core.Bool.{Bool, true, false, ◌&&◌}
 use borrow.Author.Tests.{le-ltb}
 use lib.Dec.{eqb}
-use lib.ListN.{length, get_or, take, length-take}
-use Rattle.lists.proofs.Finding.Firsts.{first_length}
-use Rattle.vectors.specs.Bounds.{max_cells, max_words}
+use lib.ListN.{get_or, take}
+use Rattle.vectors.specs.Bounds.{max_words}
 use Rattle.record.specs.declared.Record.{Record}
 use Rattle.record.specs.Tables.{Tables}
 use Rattle.record.specs.Formed.{well_formed, sound}
@@ -67,11 +66,6 @@ module _ {u : Record} {t : Tables} {i number : ℕ} (T : Turn u t i number) wher
 
   first_is : number ≡ first_cell u t i
   first_is = T.number_is ∙ firsts_of (take u.cells t.g) max_words i (omega (arith, (few_words u t formed).0, T.inside))
-
-  pub turn_low : number ≤ max_cells
-  turn_low =
-      let l : first_cell u t i ≤ length (take u.cells t.g) = first_length _ (take u.cells t.g) in
-      omega (arith, length-take u.cells t.g, (few_words u t formed).1, first_is)
 
   abbrev word : ℕ
   word = get_or t.aux i 0

@@ -1,5 +1,6 @@
 pub mod Charts
 pub mod Recovery
+pub mod Telling
 pub mod Exact
 pub mod Firsts
 pub mod Every

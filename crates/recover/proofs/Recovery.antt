@@ -4,6 +4,9 @@ use native.Mathlib.Omega.{arith}
 use mathlib.Core.Path.{◌≡◌, refl, sym, ap, ◌∙◌}
 use mathlib.Core.Bool.{Bool, true, false, ◌&&◌}
 use borrow.Author.Tests.{le-leb, lt-leb}
+use Rattle.std.specs.Prelude.{Option, None, Some}
+use Rattle.std.specs.Option.{ok_or}
+use Rattle.refusal.specs.declared.Refusal.TheVariants.{NoUnit}
 use lib.Dec.{ltb}
 use lib.ListN.{length, get_or, take}
 use lib.Seq.{get_or-take, length-take-le}
@@ -13,13 +16,12 @@ use Rattle.vectors.specs.Variable.{row_of, column_of}
 use Rattle.vectors.specs.Word.{word_of}
 use Rattle.vectors.proofs.Words.Laws.{word_row}
 use Rattle.span.specs.Span.{first_dependent, sound_of}
-use Rattle.span.specs.declared.Found.{Found}
 use Rattle.span.specs.Fixed as span
 use Rattle.span.specs.Fixed.{vector_of, found_by}
 use Rattle.span.proofs.Labels.Edges.{all_edges}
 use Rattle.span.proofs.Fixed.{Fixed, vector_is, vector_one, sound_facts, found_fixed, found_nothing}
 use Rattle.record.specs.declared.Record.{Record}
-use Rattle.recover.specs.declared.Recovered.{Recovered}
+use Rattle.recover.specs.Recover.{Recovered}
 use Rattle.vectors.specs.Bounds.{outside}
 use Rattle.record.specs.Record.{kinds_in}
 use Rattle.record.specs.Tables.{Tables, index_in}
@@ -30,7 +32,7 @@ use Rattle.record.proofs.Formed.{well_formed_facts}
 use Rattle.record.proofs.Soundness.{Sound, sound_says}
 use Rattle.recover.specs.Inner.Fixed.{answered, vector_in}
 use Rattle.recover.proofs.Charts.{Charted, charted}
-use Rattle.recover.specs.Recover.{recovered, not_recovered, first_cell, row_in, in_chart, fixes, vector_at, from_cell, recover_of}
+use Rattle.recover.specs.Recover.{recovered, not_recovered, told, first_cell, row_in, in_chart, fixes, vector_at, from_cell, recover_of}
 
 -- ---- the cell
 
@@ -43,6 +45,10 @@ module _ (u : Record) (t : Tables) (word : ℕ) where
   unfolding from_cell
   from_some zero n = absurd (n refl)
   from_some (suc cell) n = let e : suc cell - 1 ≡ cell = omega arith in ap (vector_at u t word) e
+
+  pub from_held : (number cell : ℕ) → number ≡ suc cell → vector_at u t word cell ≡ from_cell u t word number
+  unfolding from_cell
+  from_held number cell e = rw e
 
 -- ---- the displacement of the row
 
@@ -73,13 +79,18 @@ module _ (u : Record) (word column : ℕ) (size : length (kinds_in u) ≡ u.p) (
   fixes_same = rw (size, le-leb u.n1 u.p rows) (turned (ltb column (2 ^ (u.p - u.n1))) (sound_of u.n (kinds_in u) u.kept) (ltb word (2 ^ (u.n1 + u.n - u.p))))
 
   -- what is found is the answer
-  pub vector_found : (f : Found) → f ≡ found_by u.n u.n1 (kinds_in u) u.kept word column → answered f ≡ vector_in u word column
+  pub vector_found : (f : Option ℕ) → f ≡ found_by u.n u.n1 (kinds_in u) u.kept word column → answered f ≡ vector_in u word column
   unfolding vector_in
   vector_found f e = e' fixing refl
     where
       e' : (b : Bool) → fixing ≡ b → answered f ≡ vector_in u word column
       e' true b = ap answered (e ∙ sym (found_fixed u.n u.n1 (kinds_in u) u.kept word column (fixes_same ∙ b))) ∙ rw (b, vector_in)
       e' false b = ap answered (e ∙ sym (found_nothing u.n u.n1 (kinds_in u) u.kept word column (fixes_same ∙ b))) ∙ rw (b, vector_in)
+
+-- as the code answers with it
+pub told_found : (f : Option ℕ) → told (ok_or f NoUnit) ≡ answered f
+told_found (Some x) = refl
+told_found None = refl
 
 -- ---- the tests before
 

@@ -1,13 +1,20 @@
 -- The vector of an index.
-use Rattle.std.specs.Prelude.{ℕ, zero, suc, ◌+◌, ◌-◌, ◌%◌, ◌^◌, Bool, true, false, ◌&&◌, List, eqb, leb, ltb, get_or, take}
+use Rattle.std.specs.Prelude.{ℕ, zero, suc, ◌+◌, ◌-◌, ◌%◌, ◌^◌, Bool, true, false, ◌&&◌, Result, Ok, Err, List, eqb, leb, ltb, get_or, take}
 use Rattle.lists.specs.First.{first_of}
+use Rattle.refusal.specs.declared.Refusal.{Refusal}
+use Rattle.refusal.specs.Refusal.{number_of}
 use Rattle.vectors.specs.Bounds.{outside}
 use Rattle.span.specs.Fixed.{vector_of}
 use Rattle.record.specs.declared.Record.{Record}
 use Rattle.record.specs.Record.{kinds_in}
 use Rattle.record.specs.Tables.{Tables, index_in}
 use Rattle.record.specs.Formed.{well_formed, sound}
-use Rattle.recover.specs.declared.Recovered.{Recovered}
+
+-- the refusal's number and its place, 0 and 0 where the call is accepted; the vector, 0 beside a refusal
+pub record Recovered : Type 0 where
+  pub refusal : ℕ
+  pub place : ℕ
+  pub vector : ℕ
 
 -- SCOPE 11.3, 11.7: a vector beside refusal 0, or a refusal with the vector 0; the place is 0
 abbrev pub recovered : ℕ → Recovered
@@ -15,6 +22,11 @@ recovered v = record { refusal = 0; place = 0; vector = v }
 
 abbrev pub not_recovered : ℕ → Recovered
 not_recovered number = record { refusal = number; place = 0; vector = 0 }
+
+-- a vector or a refusal by name
+abbrev pub told : Result ℕ Refusal → Recovered
+told (Ok v) = recovered v
+told (Err refused) = not_recovered (number_of refused)
 
 -- SCOPE 10.2: the number from 1 of the first of the cells that holds i; 0 for none
 abbrev pub first_holding : List ℕ → ℕ → ℕ

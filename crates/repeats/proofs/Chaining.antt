@@ -1,7 +1,6 @@
 -- The loop over the words: i of them are in the chains, and no two of those are equal. Assumes nothing.
-use Prim.Native.Nat.{ℕ, ◌+◌, ◌-◌, ◌≤◌, ◌<◌}
+use Prim.Native.Nat.{ℕ, suc, ◌+◌, ◌-◌, ◌≤◌, ◌<◌}
 use native.Mathlib.Nat.{eq-or-lt_of_le, mod-lt}
-use native.Mathlib.Numerals.{add-one}
 use native.Mathlib.Omega.{arith}
 use mathlib.Core.Path.{◌≡◌, refl, sym, ap, ◌∙◌}
 use mathlib.Core.Bool.{Bool, true, false}
@@ -71,9 +70,6 @@ module _ {words heads next : List ℕ} {i : ℕ} (fits : length words ≤ max_ve
   pub chaining_end : length words ≤ i → 0 ≡ repeated_in words
   chaining_end h = sym (few words fits ∙ repeated_none words (λ a b p q. c.fresh a b p (omega arith)))
 
-  pub chaining_low : (s : ℕ) → s < slots → get_or heads s 0 ≤ i
-  chaining_low s h = (c.latest s h).within
-
   pub chaining_front : length (take i words) ≡ i
   chaining_front = length-take-le i words c.within
 
@@ -87,12 +83,11 @@ module _ {words heads next : List ℕ} {i : ℕ} (fits : length words ≤ max_ve
   chaining_latest s x e = rw (e, chaining_front) (latest_front words i i _ _ (omega arith) (c.latest (slot_of x) (slot_below x)))
 
   module _ (h : i < length words) where
-    pub chaining_here : Seen (take i words) (get_or words i 0) true → i + 1 ≡ repeated_in words
+    pub chaining_here : Seen (take i words) (get_or words i 0) true → suc i ≡ repeated_in words
     chaining_here s =
         let f = s.found refl in
         let l : f.0 < i = rw chaining_front at f.1 in
-        add-one i
-        ∙ sym (few words fits ∙ repeated_at words f.0 i l h (sym (get_or-take i words f.0 0 l) ∙ f.2) (λ b d p q. c.fresh b d p q))
+        sym (few words fits ∙ repeated_at words f.0 i l h (sym (get_or-take i words f.0 0 l) ∙ f.2) (λ b d p q. c.fresh b d p q))
 
     latest_next : (s : ℕ) → s ≡ slot_of (get_or words i 0) → (t : ℕ) → t < slots → Latest words (i + 1) (get_or (set heads s (i + 1)) t 0) t
     latest_next s e t l = go (eqb t s) refl

@@ -2,6 +2,7 @@
 #![tactic(auto)]
 
 ghost use Rattle.std.specs.Prelude.{◌≡◌, ◌≤◌, ◌<◌, length};
+ghost use Rattle.lists.specs.First.{place_number};
 ghost use Rattle.vectors.specs.Bounds.{max_vectors};
 ghost use Rattle.repeats.specs.Repeats.{repeated_in};
 ghost use Rattle.repeats.specs.Chains.{slots, slot_of, Latest, Linked, Seen};
@@ -9,6 +10,7 @@ ghost use Rattle.repeats.specs.Chains.{slots, slot_of, Latest, Linked, Seen};
 use vectors::{MAX_VECTORS, MAX_WORDS};
 
 // The slot of a word: 11 bits that all 64 go into.
+#[tactic(auto, unfolding(crate::specs::Chains::slot_of))]
 fn slot(x: u64) -> usize
     ensures { (result ≡ slot_of x) × (result < slots) }
 {
@@ -23,6 +25,7 @@ fn seen(words: &[u64], next: &[u16; MAX_WORDS], from: usize, x: u64) -> bool
     ensures { Seen words.now x result }
 {
     let mut j = from;
+    // A while: it follows a chain, from a word to the one before it in the slot.
     while j != 0 {
         if words[j - 1] == x {
             return true;
@@ -32,29 +35,27 @@ fn seen(words: &[u64], next: &[u16; MAX_WORDS], from: usize, x: u64) -> bool
     false
 }
 
-// The number from 1 of the first word that equals an earlier one; 0 for none, and for more than 1,023 words.
+// The place from 0 of the first word that equals an earlier one; none where there are more than 1,023 words.
 // Not inlined: its arrays are given back before rows are placed.
 #[inline(never)]
-pub fn first_repeat(words: &[u64]) -> usize
-    ensures { result ≡ repeated_in words.now }
+pub fn first_repeat(words: &[u64]) -> Option<usize>
+    ensures { place_number result ≡ repeated_in words.now }
 {
-    // A list that is too long is answered as an empty one.
     if MAX_VECTORS < words.len() {
-        return first_repeat(&words[..0]);
+        return None;
     }
+    // A word is named by its number from 1, and 0 is none: an Option<u16> takes four bytes for two, and with it igu_build_given would
+    // pass the stack that include/igu.h asks for.
     let mut heads = [0u16; 2048];
     let mut next = [0u16; MAX_WORDS];
-    let mut i = 0;
-    while i < words.len() {
-        let x = words[i];
-        let s = slot(x);
+    for (i, x) in words.iter().enumerate() {
+        let s = slot(*x);
         let from = heads[s];
-        if seen(&words[..i], &next, from as usize, x) {
-            return i + 1;
+        if seen(&words[..i], &next, from as usize, *x) {
+            return Some(i);
         }
         next[i] = from;
-        i += 1;
-        heads[s] = i as u16;
+        heads[s] = i as u16 + 1;
     }
-    0
+    None
 }

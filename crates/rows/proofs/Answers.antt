@@ -3,3 +3,4 @@ pub mod Owned
 pub mod Unfit
 pub mod Settled
 pub mod Single
+pub mod Told

@@ -10,12 +10,10 @@ use lib.ListN.{length, get_or}
 use Rattle.lists.specs.First.{has}
 use Rattle.lists.proofs.Finding.Has.{has_cons}
 use Rattle.rows.specs.Care.{Care, in_row, weight_of}
-use Rattle.rows.specs.Fit.{first_fit}
+use Rattle.rows.specs.Fit.{first_fit, None}
 use Rattle.rows.specs.Place.{Placing, place}
 use Rattle.rows.specs.Demand.{filled, Ahead, Falling, Once, Smallest, Bounded, tries_of, bound_of, Spread, spread, Columns}
-use Rattle.rows.specs.declared.End.{End}
-use Rattle.rows.specs.declared.End.TheVariants.{All, NoFit, Over, Unfit}
-use Rattle.rows.specs.declared.Fit.TheVariants.{None}
+use Rattle.rows.specs.End.{End, All, NoFit, Over, Unfit}
 use Rattle.rows.proofs.Fits.Bound.{first_fits}
 use Rattle.rows.proofs.Fits.Columns.{row_inside}
 use Rattle.rows.proofs.Placing.Open.{open_none}

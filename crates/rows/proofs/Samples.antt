@@ -2,7 +2,7 @@
 use mathlib.Core.Path.{◌≡◌, refl}
 use mathlib.Core.List.{[], ◌∷◌}
 use Rattle.rows.specs.Answer.{owner_bit, left, placed}
-use Rattle.rows.specs.declared.End.TheVariants.{All, NoFit, Over, Unfit}
+use Rattle.rows.specs.End.{All, NoFit, Over, Unfit}
 
 -- two rows of one vector each, both in column 0, over cells of which the first is taken: displacements 1 and 2, 2 + 3 tries, which are all that are allowed
 pub around : placed (0 ∷ 0 ∷ 1 ∷ []) (9 ∷ 9 ∷ 9 ∷ []) (7 ∷ 0 ∷ 0 ∷ []) owner_bit 5

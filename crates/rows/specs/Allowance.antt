@@ -4,8 +4,7 @@ use Rattle.lists.specs.First.{has}
 use Rattle.rows.specs.Care.{Care, open_weight, heaviest}
 use Rattle.rows.specs.Place.{Placing}
 use Rattle.rows.specs.Demand.{tries_of, bound_of}
-use Rattle.rows.specs.declared.End.{End}
-use Rattle.rows.specs.declared.End.TheVariants.{All, NoFit, Over, Unfit}
+use Rattle.rows.specs.End.{End, All, NoFit, Over, Unfit}
 
 -- the row at which a placing ends that has no displacement, else 0
 abbrev pub last_row : End → ℕ

@@ -4,8 +4,7 @@ use Rattle.vectors.specs.Bounds.{max_cells, max_words, max_rows}
 use Rattle.rows.specs.Care.{Care, cares_by}
 use Rattle.rows.specs.Place.{Placing, place}
 use Rattle.rows.specs.Allowance.{end_within}
-use Rattle.rows.specs.declared.End.TheVariants.{All, NoFit, Over, Unfit}
-use Rattle.rows.specs.declared.Placed.{Placed}
+use Rattle.rows.specs.End.{End, All, NoFit, Over, Unfit}
 
 -- ---- the words of AUX
 
@@ -62,6 +61,11 @@ unfit aux rows cells owner =
     || astray rows (drop 1 aux)))))
 
 -- ---- the answer
+
+-- how the placing ends, and the tries of the rows placed, 0 where the allowance is exceeded
+pub record Placed : Type 0 where
+  pub end : End
+  pub tries : ℕ
 
 -- the answer, with H and G as they are left
 pub record Left : Type 0 where

@@ -1,8 +1,11 @@
 -- First fit of one row into the cells.
 use Rattle.std.specs.Prelude.{ℕ, zero, suc, ◌+◌, max, Bool, true, false, ◌&&◌, List, [], ◌∷◌, eqb, ltb, length, get_or, set}
 use Rattle.rows.specs.Care.{Care}
-use Rattle.rows.specs.declared.Fit.{Fit}
-use Rattle.rows.specs.declared.Fit.TheVariants.{At, None}
+
+-- the displacement of a row; or none, after so many were tried, and so many cells would do
+pub data Fit : Type 0 where
+  At : ℕ → Fit
+  None : ℕ → ℕ → Fit
 
 -- where a column lies at a displacement: the sum, which never comes round (SCOPE 7.4)
 abbrev pub cell_of : Care → ℕ → ℕ

@@ -1,3 +1,4 @@
 -- What the inner contracts cite.
 pub mod Chains
+pub mod Swept
 pub mod Taken

@@ -1,9 +1,11 @@
 pub mod Care
 pub mod Fit
+pub mod End
 pub mod Place
 pub mod Demand
 pub mod Needed
 pub mod Allowance
 pub mod Answer
+pub mod Told
 pub mod Single
 pub mod Inner

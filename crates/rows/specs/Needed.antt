@@ -3,7 +3,7 @@ use Rattle.std.specs.Prelude.{ℕ, ◌≤◌, ◌<◌, ◌≡◌, Bool, true, fa
 use Rattle.lists.specs.First.{has}
 use Rattle.rows.specs.Care.{Care}
 use Rattle.rows.specs.Place.{State, Placing, place}
-use Rattle.rows.specs.declared.End.TheVariants.{NoFit}
+use Rattle.rows.specs.End.{NoFit}
 
 -- g' are the cells g, and free ones besides
 pub record More (g g' : List ℕ) : Type 0 where

@@ -1,10 +1,8 @@
 -- Placing the rows, one after the other.
 use Rattle.std.specs.Prelude.{ℕ, zero, suc, ◌+◌, true, false, List, [], ◌∷◌, eqb, length, set}
 use Rattle.rows.specs.Care.{Care, in_row, open_weight, heaviest}
-use Rattle.rows.specs.Fit.{first_fit, put}
-use Rattle.rows.specs.declared.End.{End}
-use Rattle.rows.specs.declared.End.TheVariants.{All, NoFit}
-use Rattle.rows.specs.declared.Fit.TheVariants.{At, None}
+use Rattle.rows.specs.Fit.{first_fit, put, At, None}
+use Rattle.rows.specs.End.{End, All, NoFit}
 
 -- h: the displacements, a word for each row; g: the cells; tries: for each row placed one more than its displacement, summed (SCOPE 7.6); order: the rows placed, the last first
 pub record State : Type 0 where

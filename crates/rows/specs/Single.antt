@@ -2,10 +2,8 @@
 use Rattle.std.specs.Prelude.{ℕ, ◌*◌, true, false, List, length}
 use Rattle.vectors.specs.Bounds.{max_rows}
 use Rattle.rows.specs.Care.{Care}
-use Rattle.rows.specs.Fit.{first_fit}
+use Rattle.rows.specs.Fit.{first_fit, Fit, None}
 use Rattle.rows.specs.Answer.{cares_in, unfit}
-use Rattle.rows.specs.declared.Fit.{Fit}
-use Rattle.rows.specs.declared.Fit.TheVariants.{None}
 
 -- the word of a vector of the row 0 (SCOPE 7.3 goes by its column alone)
 abbrev pub column_word : Care → ℕ

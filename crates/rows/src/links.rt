@@ -1,10 +1,10 @@
 // The words while rows are placed: AUX[i] holds row + ROWS * column + PLACES * next + LINKED * weight of vector i, next being the next
 // vector of its row (past the end for none) and weight how many there are from i on. H[r] holds MARK + the first vector of row r until
 // the row is placed; 0 where the row is empty.
-ghost use Rattle.std.specs.Prelude.{◌≡◌, ◌≤◌, ◌<◌, length};
+ghost use Rattle.std.specs.Prelude.{◌≡◌, ◌+◌, ◌-◌, ◌^◌, ◌≤◌, ◌<◌, length, MatchOption};
 ghost use Rattle.vectors.specs.Bounds.{max_words};
 ghost use Rattle.rows.specs.Answer.{column_in};
-ghost use Rattle.rows.specs.Inner.Chains.{next_in, head_of, weight_from, Packed, LinkedIs, unlinked};
+ghost use Rattle.rows.specs.Inner.Chains.{next_in, weight_in, mark_bit, Rises, Packed, LinkedIs, unlinked};
 
 use vectors::MAX_ROWS;
 
@@ -20,6 +20,18 @@ const LINKED: u64 = PLACES * LINKS;
 // Added to the first vector of a row it is the row's mark; no displacement is above it.
 pub(crate) const MARK: u16 = 1 << 15;
 
+// The vectors of a row that is to be placed: the first of them, and the others along the links, each a later word than the one before.
+// Vector i is written into its cell as owner + i.
+#[derive(Clone, Copy)]
+pub(crate) struct Chain<'a> {
+    pub(crate) words: &'a [u64],
+    pub(crate) first: usize,
+    pub(crate) owner: u16,
+    ghost rises: { Rises 0 words.now },
+    ghost some: { (0 < first) × (first < length words.now) },
+    ghost numbered: { length words.now + owner ≤ 2 ^ 16 },
+}
+
 pub(crate) fn column(word: u64) -> usize
     ensures { result ≡ column_in word }
 {
@@ -32,24 +44,21 @@ pub(crate) fn next(word: u64) -> usize
     (word / PLACES % LINKS) as usize
 }
 
-// The vector that a row's mark stands at; past the end for a row that is placed or empty.
-pub(crate) fn head(mark: u16, end: usize) -> usize
-    ensures { result ≡ head_of end mark }
+// How many vectors there are from that of the word on.
+pub(crate) fn weight(word: u64) -> u64
+    ensures { result ≡ weight_in word }
 {
-    if mark <= MARK {
-        return end;
-    }
-    (mark - MARK) as usize
+    word / LINKED
 }
 
-// How many vectors there are from j on; 0 past the end.
-pub(crate) fn weight_from(aux: &[u64], j: usize) -> u64
-    ensures { result ≡ weight_from aux.now j }
+// The vector that a row's mark stands at; none for a row that is placed or empty.
+pub(crate) fn head(mark: u16) -> Option<usize>
+    ensures { MatchOption result (mark ≤ mark_bit) (λ first. (mark_bit < mark) × (first ≡ mark - mark_bit)) }
 {
-    if j < aux.len() {
-        return aux[j] / LINKED;
+    if mark <= MARK {
+        return None;
     }
-    0
+    Some((mark - MARK) as usize)
 }
 
 // Links the words of each row, and marks the rows that have one; H is 0 where a row has none.
@@ -58,26 +67,25 @@ pub(crate) fn link(aux: &mut [u64], h: &mut [u16])
     requires inside { (0 < length aux.old) × (length aux.old ≤ max_words) }
     ensures { LinkedIs aux.old aux.new h.new }
 {
-    lists::clear16(h);
-    let mut i = aux.len() - 1;
-    while 0 < i {
+    h.fill(0);
+    for i in (1..aux.len()).rev() {
         let w = aux[i];
         let r = (w % ROWS) as usize;
-        let j = head(h[r], aux.len());
-        let n = weight_from(aux, j);
-        aux[i] = w + PLACES * (j as u64) + LINKED * (n + 1);
+        let (next, later) = match head(h[r]) {
+            Some(first) => (first, weight(aux[first])),
+            None => (aux.len(), 0),
+        };
+        aux[i] = w + PLACES * (next as u64) + LINKED * (later + 1);
         h[r] = MARK + i as u16;
-        i -= 1;
     }
 }
 
 // Takes the links and the weights out again.
 pub(crate) fn unlink(aux: &mut [u64])
+    requires { 0 < length aux.old }
     ensures { aux.new ≡ unlinked aux.old }
 {
-    let mut i = 1;
-    while i < aux.len() {
-        aux[i] = aux[i] % PLACES;
-        i += 1;
+    for word in &mut aux[1..] {
+        *word %= PLACES;
     }
 }

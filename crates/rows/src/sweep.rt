@@ -1,62 +1,117 @@
 // The rows in their order: a sweep for each weight.
-ghost use Rattle.std.specs.Prelude.{◌≡◌, ◌+◌, ◌^◌, ◌≤◌, ◌<◌, length, replicate};
+ghost use Rattle.std.specs.Prelude.{◌≡◌, ◌+◌, ◌*◌, ◌^◌, ◌≤◌, ◌<◌, length, replicate, IfOk};
 ghost use Rattle.lists.specs.Members.{All};
-ghost use Rattle.vectors.specs.Bounds.{max_cells, max_words, max_rows};
+ghost use Rattle.vectors.specs.Bounds.{max_cells, max_rows};
 ghost use Rattle.rows.specs.Answer.{cares_in, cares_of, left, settled};
-ghost use Rattle.rows.specs.Inner.Chains.{chain_of, Rises, Weighs, Marked, RowPlaced, undone, Within};
+ghost use Rattle.rows.specs.Told.{told};
+ghost use Rattle.rows.specs.Inner.Chains.{chain_of, Rises, Weighs, Marked, RowTried, undone, Within};
+ghost use Rattle.rows.specs.Inner.Swept.{Swept};
 ghost use Rattle.rows.specs.Inner.Taken.{Taken};
 
-use crate::links::{MARK, ROWS, column, head, weight_from};
+use crate::links::{Chain, MARK, ROWS, column, head, weight};
 use crate::room::TAKEN_WORDS;
-use crate::{End, Fit, Placed, room};
+use crate::{NoFit, Stop};
 
 // Takes the placing back: empties the cells of the rows that are placed, and H.
 fn undo(aux: &[u64], h: &mut [u16], g: &mut [u16])
-    requires { All (Within h.old (length g.old)) (cares_in aux.now) }
+    requires some { 0 < length aux.now }
+    requires within { All (Within h.old (length g.old)) (cares_in aux.now) }
     ensures h_after { h.new ≡ replicate (length h.old) 0 }
     ensures g_after { g.new ≡ undone h.old (cares_in aux.now) g.old }
 {
-    let mut i = 1;
-    while i < aux.len() {
-        let w = aux[i];
+    for word in &aux[1..] {
+        let w = *word;
         let d = h[(w % ROWS) as usize];
-        i += 1;
         if d <= MARK {
             g[column(w) + d as usize] = 0;
         }
     }
-    lists::clear16(h);
+    h.fill(0);
 }
 
-// Places the row at its first fit; first is the first of its vectors.
+// Places the row at its first fit, and gives the tries with its own. They are compared with the allowance after the first fit, and where
+// they exceed it the row may be placed already.
 fn place_row(
+    chain: Chain,
+    row: usize,
+    h: &mut [u16],
+    g: &mut [u16],
+    taken: &mut [u64; TAKEN_WORDS],
+    tries: u64,
+    allowance: u64,
+) -> Result<u64, Stop>
+    requires inside { (row < length h.old) × (tries ≤ max_cells * max_rows) }
+    requires taken { Taken g.old taken.old }
+    ensures row_tried { RowTried (chain_of chain.entry.owner chain.entry.words.now chain.entry.first) row tries allowance h.old g.old result h.new g.new }
+    ensures taken_2 { IfOk result (λ more. Taken g.new taken.new) }
+{
+    match chain.first_fit(g, taken) {
+        Ok(d) => {
+            chain.put(g, taken, d);
+            h[row] = d as u16;
+            let more = tries + (d as u64 + 1);
+            if allowance < more {
+                return Err(Stop::Over(row));
+            }
+            Ok(more)
+        }
+        Err(NoFit { tried, cells }) => {
+            if allowance < tries + tried as u64 {
+                return Err(Stop::Over(row));
+            }
+            Err(Stop::NoFit {
+                row,
+                tried,
+                needed: cells,
+                tries,
+            })
+        }
+    }
+}
+
+// A sweep over the rows in rising order for each level: it places those whose weight is the level.
+fn place_levels(
     aux: &[u64],
     h: &mut [u16],
     g: &mut [u16],
     taken: &mut [u64; TAKEN_WORDS],
-    row: usize,
-    first: usize,
     owner: u16,
-) -> Fit
-    requires linked { Rises 0 aux.now }
-    requires inside { (0 < first) × (first < length aux.now) × (length aux.now + owner ≤ 2 ^ 16) × (row < length h.old) × (length g.old ≤ max_cells) }
+    allowance: u64,
+) -> Result<u64, Stop>
+    requires linked { (Rises 0 aux.now) × Weighs 0 aux.now }
+    requires marked { Marked aux.now h.old }
+    requires inside { (0 < length aux.now) × (length aux.now + owner ≤ 2 ^ 16) × (length h.old ≤ max_rows) }
     requires taken { Taken g.old taken.old }
-    ensures row_placed { RowPlaced (chain_of owner aux.now first) row h.old g.old result h.new g.new }
-    ensures taken_2 { Taken g.new taken.new }
+    requires rows { All (λ c. c.row < length h.old) (cares_in aux.now) }
+    ensures { Swept allowance owner aux.now (length h.old) g.old h.new g.new result }
 {
-    let fit = room::first_fit(aux, g, taken, first);
-    match fit {
-        Fit::At(d) => {
-            room::put_row(aux, g, taken, first, d, owner);
-            h[row] = d as u16;
-            Fit::At(d)
+    let mut tries = 0;
+    let mut level = (aux.len() - 1) as u64;
+    // A while: the next level is the greatest weight that the sweep finds below this one.
+    while 0 < level {
+        let mut below = 0;
+        for row in 0..h.len() {
+            let mark = h[row];
+            if let Some(first) = head(mark) {
+                let w = weight(aux[first]);
+                if w == level {
+                    let chain = Chain {
+                        words: aux,
+                        first,
+                        owner,
+                    };
+                    tries = place_row(chain, row, h, g, taken, tries, allowance)?;
+                } else {
+                    below = below.max(w);
+                }
+            }
         }
-        Fit::None(tried, cells) => Fit::None(tried, cells),
+        level = below;
     }
+    Ok(tries)
 }
 
-// Places the marked rows. A sweep over the rows in rising order places those whose weight is the level, and finds the greatest weight
-// below it, which is the level of the next. The tries of a row are compared with the allowance after its first fit.
+// Places the marked rows, or takes those placed back where the placing ends otherwise.
 pub(crate) fn place_rows(
     aux: &[u64],
     h: &mut [u16],
@@ -64,66 +119,17 @@ pub(crate) fn place_rows(
     taken: &mut [u64; TAKEN_WORDS],
     owner: u16,
     allowance: u64,
-) -> Placed
-    requires rises { Rises 0 aux.now }
-    requires weighs { Weighs 0 aux.now }
+) -> Result<u64, Stop>
+    requires linked { (Rises 0 aux.now) × Weighs 0 aux.now }
     requires marked { Marked aux.now h.old }
-    requires inside { (0 < length aux.now) × (length aux.now ≤ max_words) × (length aux.now + owner ≤ 2 ^ 16) × (length h.old ≤ max_rows) × (length g.old ≤ max_cells) }
+    requires inside { (0 < length aux.now) × (length aux.now + owner ≤ 2 ^ 16) × (length h.old ≤ max_rows) }
     requires taken { Taken g.old taken.old }
     requires rows { All (λ c. c.row < length h.old) (cares_in aux.now) }
-    ensures { left result h.new g.new ≡ settled allowance (cares_of owner aux.now) (length h.old) g.old }
+    ensures { left (told result) h.new g.new ≡ settled allowance (cares_of owner aux.now) (length h.old) g.old }
 {
-    let mut tries = 0;
-    let mut level = (aux.len() - 1) as u64;
-    let mut below = 0;
-    let mut i = 0;
-    while 0 < level {
-        if i < h.len() {
-            let row = i;
-            let first = head(h[row], aux.len());
-            let w = weight_from(aux, first);
-            i += 1;
-            if w == level {
-                let fit = place_row(aux, h, g, taken, row, first, owner);
-                match fit {
-                    Fit::At(d) => {
-                        let more = tries + (d as u64 + 1);
-                        if allowance < more {
-                            undo(aux, h, g);
-                            return Placed {
-                                end: End::Over(row),
-                                tries: 0,
-                            };
-                        }
-                        tries = more;
-                    }
-                    Fit::None(tried, cells) => {
-                        undo(aux, h, g);
-                        if allowance < tries + tried as u64 {
-                            return Placed {
-                                end: End::Over(row),
-                                tries: 0,
-                            };
-                        }
-                        return Placed {
-                            end: End::NoFit(row, tried, cells),
-                            tries,
-                        };
-                    }
-                }
-            } else {
-                if below < w {
-                    below = w;
-                }
-            }
-        } else {
-            level = below;
-            below = 0;
-            i = 0;
-        }
+    let placed = place_levels(aux, h, g, taken, owner, allowance);
+    if placed.is_err() {
+        undo(aux, h, g);
     }
-    Placed {
-        end: End::All,
-        tries,
-    }
+    placed
 }

@@ -11,13 +11,14 @@ use lib.Count.{ones}
 use lib.Dec.{eqb}
 use lib.ListN.{length, length-map}
 use lib.Pow.{pow_pos, shr_lt, shl_exact, split}
+use Rattle.std.proofs.lemmas.Bool.{and_parts}
 use Rattle.lists.specs.First.{first_from}
-use Rattle.lists.proofs.Tests.{and_true, le_or_lt}
+use Rattle.lists.proofs.Tests.{le_or_lt}
 use Rattle.lists.specs.Members.{All}
 use Rattle.lists.proofs.Finding.Firsts.{FoundFrom, found_from}
 use Rattle.vectors.specs.declared.Kind.{Kind}
 use Rattle.vectors.specs.Variable.{mask_of, row_of, column_of}
-use Rattle.span.specs.declared.Found.TheVariants.{Vector, Nothing}
+use Rattle.std.proofs.Common.{None, Some}
 use Rattle.span.specs.Span.{kept, first_dependent, sound_of}
 use Rattle.span.specs.Inner.Tags.{start_tags, half, tags_on, kept_on}
 use Rattle.span.specs.Fixed.{vector_of, fixes, found_by}
@@ -54,7 +55,7 @@ vector_one n n1 ks word column x h f = go (found_from test (2 ^ n) 0)
         let r : ℕ = first_from (2 ^ n) test 0 in
         let l : r ≤ x = ⊎_elim (λ a. a) (λ a. absurd (true≢false (sym here ∙ g.before x (omega arith) a))) (le_or_lt r x) in
         let b : r < 2 ^ n = omega (arith, f.below) in
-        let t = and_true _ _ (g.passes (omega arith)) in
+        let t = and_parts _ _ (g.passes (omega arith)) in
         one_vector n n1 ks r x h b f.below (eqb-true _ _ t.0 ∙ sym f.word_is) (eqb-true _ _ t.1 ∙ sym f.column_is)
 
 -- ---- the values of all variables, from the row and the column
@@ -105,7 +106,7 @@ module _ (n n1 : ℕ) (ks : List Kind) (word column : ℕ) (f : All (Edge n) ks)
 -- what sound variables and kept inputs are
 pub sound_facts : (n : ℕ) (ks : List Kind) (mask : ℕ) → sound_of n ks mask ≡ true → (first_dependent ks ≡ 0) × (mask ≡ kept n ks)
 unfolding sound_of
-sound_facts n ks mask s = let t = and_true (eqb (first_dependent ks) 0) (eqb mask (kept n ks)) s in (eqb-true _ _ t.0, eqb-true _ _ t.1)
+sound_facts n ks mask s = let t = and_parts (eqb (first_dependent ks) 0) (eqb mask (kept n ks)) s in (eqb-true _ _ t.0, eqb-true _ _ t.1)
 
 -- more variables than inputs are dependent
 pub few_independent : (n : ℕ) (ks : List Kind) → All (Edge n) ks → first_dependent ks ≡ 0 → length ks ≤ n
@@ -136,38 +137,38 @@ module _ (n : ℕ) (ks : List Kind) (mask : ℕ) where
   sound_is e q = rw (sound_of, e, eq-eqb mask (kept n ks) (sym q))
 
 module _ (n n1 : ℕ) (ks : List Kind) (mask word column : ℕ) where
-  pub found_fixed : fixes n n1 ks mask word column ≡ true → Vector (vector_of n n1 ks mask word column) ≡ found_by n n1 ks mask word column
+  pub found_fixed : fixes n n1 ks mask word column ≡ true → Some (vector_of n n1 ks mask word column) ≡ found_by n n1 ks mask word column
   unfolding found_by
   found_fixed f = rw (f, found_by)
 
-  pub found_nothing : fixes n n1 ks mask word column ≡ false → Nothing ≡ found_by n n1 ks mask word column
+  pub found_nothing : fixes n n1 ks mask word column ≡ false → None ≡ found_by n n1 ks mask word column
   unfolding found_by
   found_nothing f = rw (f, found_by)
 
-  pub found_few : length ks < n1 → Nothing ≡ found_by n n1 ks mask word column
+  pub found_few : length ks < n1 → None ≡ found_by n n1 ks mask word column
   found_few h = found_nothing (rw (lt-leb n1 (length ks) h))
 
   module _ (h : n1 ≤ length ks) where
-    pub found_wide : 2 ^ (length ks - n1) ≤ column → Nothing ≡ found_by n n1 ks mask word column
+    pub found_wide : 2 ^ (length ks - n1) ≤ column → None ≡ found_by n n1 ks mask word column
     found_wide c = found_nothing (rw (le-leb n1 (length ks) h, le-ltb column (2 ^ (length ks - n1)) c))
 
     module _ (hc : column < 2 ^ (length ks - n1)) where
-      pub found_tied : (first_dependent ks ≡ 0 → ⊥) → Nothing ≡ found_by n n1 ks mask word column
+      pub found_tied : (first_dependent ks ≡ 0 → ⊥) → None ≡ found_by n n1 ks mask word column
       found_tied d = found_nothing (rw (le-leb n1 (length ks) h, lt-ltb column (2 ^ (length ks - n1)) hc, sound_tied n ks mask d))
 
       module _ (e : first_dependent ks ≡ 0) where
-        pub found_other : (kept n ks ≡ mask → ⊥) → Nothing ≡ found_by n n1 ks mask word column
+        pub found_other : (kept n ks ≡ mask → ⊥) → None ≡ found_by n n1 ks mask word column
         found_other m = found_nothing (rw (le-leb n1 (length ks) h, lt-ltb column (2 ^ (length ks - n1)) hc, sound_other n ks mask e m))
 
         module _ (m : kept n ks ≡ mask) where
-          pub found_long : 2 ^ (n1 + n - length ks) ≤ word → Nothing ≡ found_by n n1 ks mask word column
+          pub found_long : 2 ^ (n1 + n - length ks) ≤ word → None ≡ found_by n n1 ks mask word column
           found_long w =
               found_nothing
               (rw (le-leb n1 (length ks) h, lt-ltb column (2 ^ (length ks - n1)) hc, sound_is n ks mask e m, le-ltb word (2 ^ (n1 + n - length ks)) w))
 
           pub found_one : (d x : ℕ) → All (Edge n) ks → word < 2 ^ (n1 + n - length ks) → n < d
-              → x ≡ read_with n ks d (word % 2 ^ n1 + 2 ^ n1 * column) (word / 2 ^ n1) → Vector x ≡ found_by n n1 ks mask word column
+              → x ≡ read_with n ks d (word % 2 ^ n1 + 2 ^ n1 * column) (word / 2 ^ n1) → Some x ≡ found_by n n1 ks mask word column
           found_one d x f w l q =
-              ap Vector (q ∙ vector_read n n1 ks word column f e h w hc d l ∙ ap (λ (t : ℕ). vector_of n n1 ks t word column) m)
+              ap Some (q ∙ vector_read n n1 ks word column f e h w hc d l ∙ ap (λ (t : ℕ). vector_of n n1 ks t word column) m)
               ∙ found_fixed
               (rw (le-leb n1 (length ks) h, lt-ltb column (2 ^ (length ks - n1)) hc, sound_is n ks mask e m, lt-ltb word (2 ^ (n1 + n - length ks)) w))

@@ -1,7 +1,6 @@
 pub mod Tied
 pub mod Edges
 pub mod Tags
-pub mod Nodes
 pub mod Recovery
 pub mod Depend
 pub mod Walk

@@ -9,7 +9,7 @@ use mathlib.Core.Logic.{◌⊎◌, ⊎_elim}
 use lib.Bits.{bit_xor}
 use lib.Count.{ones, ones_step}
 use borrow.Author.Tests.{eqb-true}
-use Rattle.lists.proofs.Tests.{or_true, or_right}
+use Rattle.std.proofs.lemmas.Bool.{or_cases, or_right}
 use Rattle.lists.specs.Members.{All}
 use Rattle.vectors.specs.declared.Kind.{Kind}
 use Rattle.vectors.specs.Variable.{mask_of}
@@ -20,7 +20,7 @@ use Rattle.vectors.proofs.Bits.Xor.{xor_assoc, xor_left_comm, xor_cancel, Linear
 
 pub spans_cons : (m : ℕ) (ms : List ℕ) (w : ℕ) → spans (m ∷ ms) w ≡ true → (spans ms w ≡ true) ⊎ (spans ms (bit_xor m w) ≡ true)
 unfolding spans
-spans_cons m ms w h = or_true (spans ms w) (spans ms (bit_xor m w)) h
+spans_cons m ms w h = or_cases (spans ms w) (spans ms (bit_xor m w)) h
 
 pub spans_more : (m : ℕ) (ms : List ℕ) (w : ℕ) → spans ms w ≡ true → spans (m ∷ ms) w ≡ true
 unfolding spans

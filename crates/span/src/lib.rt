@@ -3,6 +3,7 @@
 #![tactic(auto)]
 
 ghost use Rattle.std.specs.Prelude.{◌≡◌};
+ghost use Rattle.lists.specs.First.{place_number};
 ghost use Rattle.span.specs.Within.{inputs_in, kinds_within};
 ghost use Rattle.span.specs.Span.{first_dependent, kept};
 ghost use Rattle.span.specs.Fixed.{found_by};
@@ -11,15 +12,9 @@ mod tags;
 
 use vectors::{MAX_INPUTS, MAX_VARIABLES, Variable};
 
-#[derive(Clone, Copy)]
-pub enum Found {
-    Vector(u64),
-    Nothing,
-}
-
-// The number from 1 of the first variable that is an XOR of earlier ones; 0 for none.
-pub fn first_dependent(n: usize, variables: [Variable; MAX_VARIABLES], p: usize) -> usize
-    ensures { result ≡ first_dependent (kinds_within n p variables) }
+// The place from 0 of the first variable that is an XOR of earlier ones.
+pub fn first_dependent(n: usize, variables: [Variable; MAX_VARIABLES], p: usize) -> Option<usize>
+    ensures { place_number result ≡ first_dependent (kinds_within n p variables) }
 {
     tags::by_variables(n, variables, p, 0).first
 }
@@ -29,8 +24,7 @@ pub fn kept_inputs(n: usize, variables: [Variable; MAX_VARIABLES], p: usize) -> 
     ensures { result ≡ kept (inputs_in n) (kinds_within n p variables) }
 {
     let w = tags::by_variables(n, variables, p, 0);
-    let t = w.tags;
-    tags::by_inputs(lists::least(n, MAX_INPUTS), 0, t).kept
+    tags::by_inputs(n.min(MAX_INPUTS), 0, w.tags).kept
 }
 
 // The vector with this word and this column, where the variables and the mask are sound and some vector has them.
@@ -42,30 +36,28 @@ pub fn vector(
     mask: u64,
     word: u64,
     column: usize,
-) -> Found
+) -> Option<u64>
     ensures { result ≡ found_by (inputs_in n) n1 (kinds_within n p variables) mask word column }
 {
-    let m = lists::least(n, MAX_INPUTS);
-    let q = lists::least(p, MAX_VARIABLES);
+    let m = n.min(MAX_INPUTS);
+    let q = p.min(MAX_VARIABLES);
     if q < n1 {
-        return Found::Nothing;
+        return None;
     }
     if vectors::beyond(q - n1, column as u64) {
-        return Found::Nothing;
+        return None;
     }
     let row = word % (1u64 << n1);
     let w = tags::by_variables(n, variables, p, row + ((column as u64) << n1));
-    if w.first != 0 {
-        return Found::Nothing;
+    if w.first.is_some() {
+        return None;
     }
-    let t = w.tags;
-    let g = tags::by_inputs(m, word >> n1, t);
+    let g = tags::by_inputs(m, word >> n1, w.tags);
     if g.kept != mask {
-        return Found::Nothing;
+        return None;
     }
     if vectors::beyond(n1 + m - q, word) {
-        return Found::Nothing;
+        return None;
     }
-    let last = g.tags;
-    Found::Vector(tags::read_off(m, last))
+    Some(tags::read_off(m, g.tags))
 }

@@ -22,24 +22,17 @@ fn no_lists(output: &mut impl Write) -> io::Result<()> {
 
 // More than 64 KiB: a vector with zeros in front, and one zero more.
 fn long_text(output: &mut impl Write, given: &[u8]) -> io::Result<()> {
-    let mut text = [48u8; 65537];
-    text[0] = 54;
-    text[1] = 32;
-    text[2] = 50;
-    text[3] = 32;
-    text[4] = 55;
-    text[5] = 32;
+    let mut text = [b'0'; 65537];
+    text[..6].copy_from_slice(b"6 2 7 ");
     console::answer(output, given, &text)?;
     console::answer(output, given, &text[..65536])
 }
 
 // Every second byte a space: 1,024 vectors are read, and refused by check 3; 1,025 are not read.
 fn many_vectors(output: &mut impl Write, given: &[u8]) -> io::Result<()> {
-    let mut text = [32u8; 2055];
-    let mut i = 0;
-    while i < 1028 {
-        text[2 * i] = 49;
-        i += 1;
+    let mut text = [b' '; 2055];
+    for i in 0..1028 {
+        text[2 * i] = b'1';
     }
     console::answer(output, given, &text)?;
     console::answer(output, given, &text[..2053])

@@ -1,5 +1,6 @@
 pub mod Places
 pub mod Crossing
+pub mod Fitting
 pub mod Loop
 pub mod Stages
 pub mod Columns

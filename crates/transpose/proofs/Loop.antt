@@ -1,6 +1,6 @@
 -- A stage's loop, pair of words after pair of words. Assumes nothing.
-use Prim.Native.Nat.{ℕ, zero, suc, ◌+◌, ◌-◌, ◌*◌, ◌/◌, ◌%◌, ◌^◌, ◌≤◌, ◌<◌}
-use native.Mathlib.Nat.{add-zero, zero-div, zero-mul}
+use Prim.Native.Nat.{ℕ, zero, suc, ◌+◌, ◌-◌, ◌*◌, ◌/◌, ◌%◌, ◌≤◌, ◌<◌}
+use native.Mathlib.Nat.{add-zero}
 use native.Mathlib.Numerals.{add-one}
 use native.Mathlib.Omega.{arith}
 use mathlib.Core.Path.{◌≡◌, refl, sym, ap, ap₂, ◌∙◌}
@@ -15,6 +15,7 @@ use lib.Seq.{get_or-set_same, get_or-set_other}
 use Rattle.vectors.specs.Bits.{bit}
 use Rattle.transpose.specs.Stage.{Distance, Exchanged, beside, bit_at, swapped, swapped_words, low_word, high_word}
 use Rattle.transpose.proofs.Places.{pair_of, low_of, even_or_odd, same, up, down, low_pair, high_pair, pair_low, pair_high, low_at, block_next, block_le, high_lt, pair_lt}
+use Rattle.transpose.proofs.Fitting.{Words, words_fit}
 use Rattle.transpose.proofs.Crossing.{low_even, low_odd, high_even, high_odd}
 
 -- the bits of word r come from where a stage takes them
@@ -32,10 +33,7 @@ pub record Blocks (j k : ℕ) (xs ys : List ℕ) : Type 0 where
   pub low : k ≤ 32
   pub whole : k / j * j ≡ k
   pub part : Part j k xs ys
-  pub words : (r : ℕ) → get_or ys r 0 < 2 ^ 64
-
-part_none : (j : ℕ) (xs : List ℕ) → length xs ≡ 64 → Part j 0 xs xs
-part_none j xs h = record { long = h; done = λ r l n. absurd (omega arith); left = λ r l n. refl }
+  pub words : Words ys
 
 -- ---- two stores
 
@@ -145,21 +143,18 @@ module _ (j mask : ℕ) (d : Distance j mask) (xs : List ℕ) where
       let e : k + suc n ≡ k + n + 1 = omega arith in
       rw (e, ← low_at j d.pos k n q) (part_more (k + n) (omega arith) (swapped_words j mask (2 * k) n ys) (part_some k ys q h p n (omega arith)))
 
-  pub blocks_none : ((r : ℕ) → get_or xs r 0 < 2 ^ 64) → length xs ≡ 64 → Blocks j 0 xs xs
-  blocks_none w h = record { low = omega arith; whole = ap (λ (t : ℕ). t * j) (zero-div j) ∙ zero-mul j; part = part_none j xs h; words = w }
-
-  pub blocks_fit : (k : ℕ) (ys : List ℕ) → k < 32 → Blocks j k xs ys → k + j ≤ 32
+  blocks_fit : (k : ℕ) (ys : List ℕ) → k < 32 → Blocks j k xs ys → k + j ≤ 32
   blocks_fit k ys h s = block_le j d.pos d.blocks k h s.whole
 
   -- a turn of the loop: ys at its head, zs at its end
-  pub blocks_turn : (k : ℕ) (ys zs : List ℕ) → k < 32 → Blocks j k xs ys → zs ≡ swapped_words j mask (2 * k) j ys → ((r : ℕ) → get_or zs r 0 < 2 ^ 64)
+  pub blocks_turn : (k : ℕ) (ys zs : List ℕ) → k < 32 → Blocks j k xs ys → zs ≡ swapped_words j mask (2 * k) j ys
       → Blocks j (k + j) xs zs
-  blocks_turn k ys zs h s e w =
+  blocks_turn k ys zs h s e =
       record {
         low = blocks_fit k ys h s;
         whole = block_next j d.pos k s.whole;
         part = rw e (part_some k ys s.whole (blocks_fit k ys h s) s.part j (omega arith));
-        words = w;
+        words = rw e (words_fit j mask (2 * k) j ys s.words);
       }
 
   pub blocks_all : (k : ℕ) (ys : List ℕ) → 32 ≤ k → Blocks j k xs ys → Exchanged j xs ys

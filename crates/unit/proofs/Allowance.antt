@@ -6,7 +6,7 @@ use lib.ListN.{length, take}
 use Rattle.vectors.specs.declared.Kind.{Kind}
 use Rattle.vectors.specs.Variable.{kinds_of}
 use Rattle.record.specs.Tables.{Tables}
-use Rattle.build.specs.declared.Refusal.{Refusal}
+use Rattle.build.specs.Built.{Refusal}
 use Rattle.build.specs.Build.{rows_share, outcome, chosen_kinds, chosen_refusal, given_refusal, build_chosen, build_given}
 use Rattle.build.proofs.Places.{chosen_small, given_small}
 use Rattle.build.proofs.Allowed.{made_most, most_half, outcome_allowed, outcome_tries, outcome_raised}

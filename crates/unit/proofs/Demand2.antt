@@ -14,7 +14,7 @@ use Rattle.vectors.specs.Bounds.{max_variables}
 use Rattle.vectors.specs.Variable.{kinds_of}
 use Rattle.rows.specs.Place.{place_in}
 use Rattle.record.specs.declared.Record.{Record}
-use Rattle.lookup.specs.declared.Found.{Found}
+use Rattle.lookup.specs.Lookup.{Found}
 use Rattle.build.specs.Build.{rows_share, Outcome, cares_from, written, build_chosen, build_given, chosen_kinds}
 use Rattle.record.specs.Tables.{Tables}
 use Rattle.record.specs.Formed.{well_formed}

@@ -12,13 +12,13 @@ use Rattle.vectors.specs.Bounds.{max_variables}
 use Rattle.vectors.specs.Variable.{kinds_of}
 use Rattle.choice.specs.Choice.{choose}
 use Rattle.rows.specs.Care.{Care}
-use Rattle.rows.specs.declared.End.TheVariants.{All}
+use Rattle.rows.specs.End.{All}
 use Rattle.rows.specs.Demand.{Spread, spread}
 use Rattle.rows.proofs.Fits.Filled.{filled_blank, blank_zero}
 use Rattle.rows.proofs.Demand3 as placing
 use Rattle.build.specs.Build.{rows_share, Outcome, cares_from, placing_of, outcome, chosen_refusal, build_chosen, given_refusal, build_given, chosen_kinds}
 use Rattle.record.specs.Record.{record_of}
-use Rattle.build.specs.declared.Refusal.{Refusal}
+use Rattle.build.specs.Built.{Refusal}
 use Rattle.record.specs.Tables.{Tables}
 use Rattle.unit.specs.Demand2.{ChosenBuild, GivenBuild}
 use Rattle.unit.specs.Demand3.{Shifted, displacements, Demand3, Demand3Chosen, Demand3Given}

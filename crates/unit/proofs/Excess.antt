@@ -12,7 +12,7 @@ use Rattle.vectors.proofs.Variables.Numbers.{number_lt}
 use Rattle.record.specs.Record.{record_of}
 use Rattle.record.specs.Tables.{Tables}
 use Rattle.record.proofs.Excesses.{excess_not_negative}
-use Rattle.build.specs.declared.Refusal.{Refusal}
+use Rattle.build.specs.Built.{Refusal}
 use Rattle.build.specs.Build.{rows_share, outcome, chosen_refusal, build_chosen, given_refusal, build_given, chosen_kinds}
 use Rattle.build.proofs.Holding.Ends.{outcome_accepted}
 use Rattle.build.proofs.Holding.Passed.{Passed, chosen_passed, given_passed}

@@ -2,8 +2,8 @@
 use Rattle.std.specs.Prelude.{ℕ, suc, ◌^◌, ◌<◌, ◌≡◌, List, length, get_or}
 use Rattle.vectors.specs.declared.Variable.{Variable}
 use Rattle.record.specs.declared.Record.{Record}
-use Rattle.lookup.specs.declared.Found.{Found}
-use Rattle.recover.specs.declared.Recovered.{Recovered}
+use Rattle.lookup.specs.Lookup.{Found}
+use Rattle.recover.specs.Recover.{Recovered}
 use Rattle.vectors.specs.Bounds.{max_variables}
 use Rattle.record.specs.Tables.{Tables}
 use Rattle.build.specs.Build.{Outcome}

@@ -8,7 +8,7 @@ use Rattle.vectors.specs.Variable.{kinds_of}
 use Rattle.rows.specs.Care.{Care, weight_of}
 use Rattle.rows.specs.Demand.{Falling, Once, Smallest, Bounded, tries_of, bound_of, Spread}
 use Rattle.build.specs.Build.{rows_share, Outcome, cares_from, chosen_kinds, chosen_refusal, given_refusal}
-use Rattle.build.specs.declared.Refusal.{Refusal}
+use Rattle.build.specs.Built.{Refusal}
 use Rattle.record.specs.Tables.{Tables}
 use Rattle.unit.specs.Demand2.{ChosenBuild, GivenBuild}
 

@@ -2,7 +2,8 @@
 // the sign of the excess and the sample units, is stated in specs/.
 #![tactic(auto)]
 
-pub use build::{Built, build_chosen, build_given};
-pub use lookup::{Found, lookup};
+pub use build::{build_chosen, build_given};
+pub use lookup::lookup;
 pub use record::{Mark, Record, well_formed};
-pub use recover::{Recovered, recover};
+pub use recover::recover;
+pub use refusal::{Refusal, Refused};

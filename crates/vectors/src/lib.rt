@@ -2,6 +2,7 @@
 #![tactic(auto)]
 
 ghost use Rattle.std.specs.Prelude.{◌≡◌, ◌%◌, ◌^◌, take, replicate, nat_le};
+ghost use Rattle.lists.specs.First.{place_number};
 ghost use Rattle.vectors.specs.Bits.{place_of};
 ghost use Rattle.vectors.specs.Bounds as bounds;
 ghost use Rattle.vectors.specs.Bounds.{max_inputs, max_variables};
@@ -27,20 +28,20 @@ pub const MAX_ROWS: usize = 1 << MAX_SIDE;
 pub const MAX_WORDS: usize = MAX_VECTORS + 1;
 
 // One input, or the XOR of two; inputs are counted from 1.
-#[derive(Clone, Copy)]
+#[derive(Clone, Copy, PartialEq, Eq, Debug)]
 pub enum Kind {
     One(u8),
     Two(u8, u8),
 }
 
 // Whether a variable counts towards the row number or the column number.
-#[derive(Clone, Copy)]
+#[derive(Clone, Copy, PartialEq, Eq, Debug)]
 pub enum Part {
     Row,
     Column,
 }
 
-#[derive(Clone, Copy)]
+#[derive(Clone, Copy, PartialEq, Eq, Debug)]
 pub struct Variable {
     pub kind: Kind,
     pub part: Part,
@@ -50,26 +51,14 @@ pub struct Variable {
 pub fn outside(low: usize, high: usize, x: usize) -> bool
     ensures { result ≡ bounds.outside low high x }
 {
-    if x < low {
-        return true;
-    }
-    high < x
+    !(low..=high).contains(&x)
 }
 
 // Whether p variables, n1 of them for rows, are more than the bounds allow.
 pub fn too_many(p: usize, n1: usize) -> bool
     ensures { result ≡ bounds.too_many p n1 }
 {
-    if MAX_VARIABLES < p {
-        return true;
-    }
-    if p < n1 {
-        return true;
-    }
-    if MAX_SIDE < n1 {
-        return true;
-    }
-    MAX_SIDE < p - n1
+    MAX_VARIABLES < p || p < n1 || MAX_SIDE < n1 || MAX_SIDE < p - n1
 }
 
 // What stands in every unused place.
@@ -88,46 +77,31 @@ pub fn faulty(n: u8, kind: Kind) -> bool
     ensures { result ≡ spec.faulty n kind }
 {
     match kind {
-        Kind::One(i) => n <= std::num::wrapping_sub_u8(i, 1),
+        Kind::One(i) => n <= i.wrapping_sub(1),
         Kind::Two(i, j) => {
-            let low = std::num::wrapping_sub_u8(i, 1);
-            let high = std::num::wrapping_sub_u8(j, 1);
-            if n <= high {
-                return true;
-            }
-            high <= low
+            let low = i.wrapping_sub(1);
+            let high = j.wrapping_sub(1);
+            n <= high || high <= low
         }
     }
 }
 
-// The number from 1 of the first of p variables that is faulty; 0 for none.
-pub fn first_faulty(n: u8, variables: [Variable; MAX_VARIABLES], p: usize) -> usize
-    ensures { result ≡ first_faulty n (kinds_of (take p variables)) }
+// The place from 0 of the first of p variables that is faulty.
+pub fn first_faulty(n: u8, variables: [Variable; MAX_VARIABLES], p: usize) -> Option<usize>
+    ensures { place_number result ≡ first_faulty n (kinds_of (take p variables)) }
 {
-    let last = lists::least(p, MAX_VARIABLES);
-    let mut i = 0;
-    while i < last {
-        let v = variables[i];
-        let kind = v.kind;
-        i += 1;
-        if faulty(n, kind) {
-            return i;
-        }
-    }
-    0
+    variables.iter().take(p).position(|v| faulty(n, v.kind))
 }
 
 // The word with input i alone; no bit where a word has no such input.
 fn place(i: u8) -> u64
     ensures { result ≡ place_of i % 2 ^ max_inputs }
 {
-    if i == 0 {
-        return 0;
+    if (1..=MAX_INPUTS).contains(&(i as usize)) {
+        1 << (i - 1)
+    } else {
+        0
     }
-    if MAX_INPUTS < i as usize {
-        return 0;
-    }
-    1u64 << (i - 1)
 }
 
 // The inputs of a variable.
@@ -144,45 +118,34 @@ pub fn mask(kind: Kind) -> u64
 pub fn value(mask: u64, x: u64) -> u64
     ensures { result ≡ value_by mask x }
 {
-    (u64::count_ones(x & mask) % 2) as u64
+    ((x & mask).count_ones() % 2) as u64
 }
 
 // Whether x has a bit at or above n.
 pub fn beyond(n: usize, x: u64) -> bool
     ensures { result ≡ nat_le (2 ^ n) x }
 {
-    if n < MAX_INPUTS {
-        1u64 << n <= x
-    } else {
-        false
-    }
+    n < MAX_INPUTS && 1 << n <= x
 }
 
 // The masks of the first p variables, and 0 after them.
 pub fn masks(variables: [Variable; MAX_VARIABLES], p: usize) -> [u64; MAX_VARIABLES]
     ensures { result ≡ masks_in p variables }
 {
-    let mut m = [0u64; MAX_VARIABLES];
-    let last = lists::least(p, MAX_VARIABLES);
-    let mut i = 0;
-    while i < last {
-        let v = variables[i];
-        let kind = v.kind;
-        m[i] = mask(kind);
-        i += 1;
+    let mut masks = [0; MAX_VARIABLES];
+    for (i, v) in variables[..p.min(MAX_VARIABLES)].iter().enumerate() {
+        masks[i] = mask(v.kind);
     }
-    m
+    masks
 }
 
 // The values under the masks as a number, the first as lowest bit; its low 64 bits where there are more masks.
 pub fn number(masks: &[u64], x: u64) -> u64
     ensures { result ≡ number_by masks.now x % 2 ^ max_inputs }
 {
-    let mut r: u64 = 0;
-    let mut i = masks.len();
-    while 0 < i {
-        i -= 1;
-        r = (r << 1) + value(masks[i], x);
+    let mut r = 0;
+    for mask in masks.iter().rev() {
+        r = (r << 1) + value(*mask, x);
     }
     r
 }
@@ -203,17 +166,18 @@ pub fn low(y: u64, n: u64) -> u64
 pub fn pack(mask: u64, x: u64) -> u64
     ensures { result ≡ pack_in max_inputs mask x }
 {
-    let mut w: u64 = 0;
-    let mut k: u64 = 0;
+    let mut w = 0;
+    let mut k = 0;
     let mut m = mask;
+    // A while: the step is the length of a run, and what shrinks is the mask itself.
     while m != 0 {
         // How far the run moves down.
-        let gap = u64::trailing_zeros(m) as u64 - k;
+        let gap = m.trailing_zeros() as u64 - k;
         // The run carried over; past the top it is 0.
-        let above = std::num::wrapping_add_u64(m | (m - 1), 1);
+        let above = (m | (m - 1)).wrapping_add(1);
         let rest = m & above;
-        w = w + ((x & (m - rest)) >> gap);
-        k = u64::trailing_zeros(above) as u64 - gap;
+        w += (x & (m - rest)) >> gap;
+        k = above.trailing_zeros() as u64 - gap;
         m = rest;
     }
     w
@@ -227,5 +191,5 @@ pub fn word(rows: &[u64], kept: u64, x: u64) -> u64
     if MAX_INPUTS <= rows.len() {
         return row;
     }
-    std::num::wrapping_add_u64(row, pack(kept, x) << rows.len())
+    row.wrapping_add(pack(kept, x) << rows.len())
 }

@@ -11,7 +11,7 @@ use Rattle.lists.specs.Members.{All, every}
 use Rattle.lists.proofs.Tests.{and_true}
 use Rattle.lists.proofs.Entries.Alls.{all_drop}
 use Rattle.lists.proofs.Finding.Firsts.{first_length}
-use Rattle.build.specs.declared.Built.{Built}
+use Rattle.build.specs.Built.{Built}
 use Rattle.build.specs.Build.{Outcome}
 use Rattle.build.proofs.Places.{chosen_place}
 use Rattle.input.specs.Fields.{fields}
@@ -22,7 +22,7 @@ use Rattle.print.proofs.Sentences.{widest, sentence_low}
 use Rattle.answer.specs.Make.{roomy, program_allowance, make_of}
 use Rattle.answer.proofs.Makes.{of_builds}
 use Rattle.answer.proofs.Fits.Refused.{chosen_number}
-use Rattle.fault.specs.declared.Fault.{Fault}
+use Rattle.fault.specs.Fault.{Fault}
 use Rattle.fault.specs.Fault.{fault_of}
 use Rattle.why.specs.Why.{line_size, form_in, fault_forms, long_form, fault_text, built_forms, other_form, vector_at, first_equal, built_text, why_of}
 use Rattle.fault.proofs.Scanning.Judging.{field_parts}

@@ -1,12 +1,12 @@
 -- Why a text is not taken, in one line (SCOPE 14.10 to 14.13).
 use Rattle.std.specs.Prelude.{ℕ, Bool, true, false, List, [], ◌∷◌, eqb, length, get_or, drop}
 use Rattle.lists.specs.First.{first_of}
-use Rattle.build.specs.declared.Built.{Built}
+use Rattle.build.specs.Built.{Built}
 use Rattle.input.specs.Input.{max_listed, good_text, numbers_in}
 use Rattle.print.specs.Ascii.{ascii}
 use Rattle.print.specs.Sentence.{sentence}
 use Rattle.answer.specs.Make.{roomy, make_of}
-use Rattle.fault.specs.declared.Fault.{Fault}
+use Rattle.fault.specs.Fault.{Fault}
 use Rattle.fault.specs.Fault.{no_digit, end_before, other_byte, large_number, few_numbers, many_vectors, fault_of}
 
 -- bytes that every line fits into

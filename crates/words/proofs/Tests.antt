@@ -1,38 +1,39 @@
 -- The tests of words. Assumes nothing.
-use Prim.Native.Nat.{ℕ}
+use Prim.Native.Nat.{ℕ, suc}
 use mathlib.Core.Path.{◌≡◌, refl, sym, ◌∙◌}
-use mathlib.Core.Bool.{Bool, true, false, false≢true}
-use mathlib.Core.List.{List}
-use borrow.Author.Tests.{eq-eqb, ne_eqb}
+use mathlib.Core.Bool.{Bool, true, false, false≢true, ◌&&◌}
+use mathlib.Core.List.{List, [], ◌∷◌}
+use native.Mathlib.Omega.{arith}
+use borrow.Author.Tests.{ne_eqb}
+use lib.Dec.{eqb}
 use lib.ListN.{length}
+use Rattle.std.specs.Cmp.Lexicographic.{pointwise}
+use Rattle.lists.proofs.Tests.{eqb_iff}
 use Rattle.input.specs.Opens.{opens}
 use Rattle.words.specs.Words.{says, show_word, list_word, find_word, add_word, asks_file}
 
-module _ (word bytes : List ℕ) where
-  pub says_short : (length bytes ≡ length word → ⊥) → false ≡ says word bytes
-  says_short n = rw (ne_eqb (length bytes) (length word) n)
-
-  pub says_long : length bytes ≡ length word → opens word bytes ≡ says word bytes
-  says_long e = rw (eq-eqb (length bytes) (length word) e)
+-- the library's equality of lists
+pub says_is : (word bytes : List ℕ) → pointwise eqb bytes word ≡ says word bytes
+unfolding opens
+says_is [] [] = refl
+says_is (w ∷ ws) [] = rw (ne_eqb 0 (suc (length ws)) (λ (p : 0 ≡ suc (length ws)). omega arith))
+says_is [] (b ∷ bs) = rw (ne_eqb (suc (length bs)) 0 (λ (p : suc (length bs) ≡ 0). omega arith))
+says_is (w ∷ ws) (b ∷ bs) =
+    let e : eqb (length (b ∷ bs)) (length (w ∷ ws)) ≡ eqb (length bs) (length ws) = eqb_iff (λ (p : suc (length bs) ≡ suc (length ws)). omega arith) (λ (p : length bs ≡ length ws). omega arith) in
+    let q : eqb w b ≡ eqb b w = eqb_iff (λ (p : w ≡ b). sym p) (λ (p : b ≡ w). sym p) in
+    rw (e, q) (go (eqb b w) (eqb (length bs) (length ws)) (says_is ws bs))
+  where
+    go : (t n : Bool) → pointwise eqb bs ws ≡ (n && opens ws bs) → (t && pointwise eqb bs ws) ≡ (n && (t && opens ws bs))
+    go true n h = h
+    go false true h = refl
+    go false false h = refl
 
 -- ---- words for a file
 
 module _ (given : List ℕ) where
-  pub asks_show : says show_word given ≡ true → true ≡ asks_file given
-  unfolding asks_file
-  asks_show h = rw (h, asks_file)
-
   module _ (no_show : says show_word given ≡ false) where
-    pub asks_list : says list_word given ≡ true → true ≡ asks_file given
-    unfolding asks_file
-    asks_list h = rw (no_show, h, asks_file)
-
     module _ (no_list : says list_word given ≡ false) where
-      pub asks_find : opens find_word given ≡ true → true ≡ asks_file given
-      unfolding asks_file
-      asks_find h = rw (no_show, no_list, h, asks_file)
-
-      pub asks_add : opens find_word given ≡ false → opens add_word given ≡ asks_file given
+      asks_add : opens find_word given ≡ false → opens add_word given ≡ asks_file given
       unfolding asks_file
       asks_add h = rw (no_show, no_list, h, asks_file)
 

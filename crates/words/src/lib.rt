@@ -19,26 +19,18 @@ pub const PAGE: usize = answer::PAGE;
 fn says(word: &[u8], bytes: &[u8]) -> bool
     ensures { result ≡ Words·says word.now bytes.now }
 {
-    if bytes.len() != word.len() {
-        return false;
-    }
-    input::opens(word, bytes)
+    bytes == word
 }
 
 // Whether the words are for the file of a unit.
+#[tactic(auto, unfolding(crate::specs::Words::asks_file))]
 fn asks_file(given: &[u8]) -> bool
     ensures { result ≡ asks_file given.now }
 {
-    if says(b"show\n", given) {
-        return true;
-    }
-    if says(b"list\n", given) {
-        return true;
-    }
-    if input::opens(b"find\n", given) {
-        return true;
-    }
-    input::opens(b"add\n", given)
+    says(b"show\n", given)
+        || says(b"list\n", given)
+        || input::opens(b"find\n", given)
+        || input::opens(b"add\n", given)
 }
 
 // Prints a unit, its list, or the keys that come after `find`.
@@ -70,21 +62,21 @@ fn from_file(given: &[u8], file: &[u8], out: &mut [u8]) -> usize
     let mut h = [0u16; MAX_ROWS];
     let mut g = [0u16; MAX_CELLS];
     let mut aux = [0u64; AUX_WORDS];
-    let loaded = load::read(file, &mut h, &mut g, &mut aux);
-    if loaded.refusal != 0 {
-        return print::refused(loaded.refusal, loaded.place, out);
-    }
+    let unit = match load::read(file, &mut h, &mut g, &mut aux) {
+        Ok(unit) => unit,
+        Err(refusal) => return print::refused(refusal.at(0), out),
+    };
     if input::opens(b"add\n", given) {
-        return amend::amend(&given[4..], loaded.unit, &mut h, &mut g, &mut aux, out);
+        return amend::amend(&given[4..], unit, &mut h, &mut g, &mut aux, out);
     }
-    print_unit(given, loaded.unit, &h, &g, &aux, out)
+    print_unit(given, unit, &h, &g, &aux, out)
 }
 
 // Does what the words say, each of them a line: answers how many bytes are written; 0, and nothing is written, where they do not fit.
 pub fn words(given: &[u8], text: &[u8], out: &mut [u8]) -> usize
     ensures { printed result out.new ≡ fitted (words_of given.now text.now) out.old }
 {
-    if given.len() == 0 {
+    if given.is_empty() {
         return answer::answer(text, out);
     }
     if says(b"pack\n", given) {

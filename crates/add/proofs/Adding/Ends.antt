@@ -10,16 +10,14 @@ use borrow.Author.Tests.{ltb-false, leb-false, not-false}
 use Rattle.lists.specs.First.{has}
 use Rattle.vectors.specs.Bounds.{max_vectors}
 use Rattle.vectors.specs.Variable.{number_of, row_of}
-use Rattle.rows.specs.Fit.{first_fit, put}
-use Rattle.rows.specs.declared.Fit.{Fit}
-use Rattle.rows.specs.declared.Fit.TheVariants.{At, None}
+use Rattle.rows.specs.Fit.{first_fit, put, Fit, At, None}
 use Rattle.record.specs.declared.Record.{Record}
 use Rattle.record.specs.Record.{kinds_in}
 use Rattle.record.specs.Tables.{Tables, over}
 use Rattle.record.specs.Leads.{cell_in}
 use Rattle.record.specs.Holds.{index_of}
 use Rattle.recover.specs.Every.{listed, list_in}
-use Rattle.build.specs.declared.Refusal.{Refusal}
+use Rattle.build.specs.Built.{Refusal}
 use Rattle.build.specs.Refusals.{ladder}
 use Rattle.build.specs.Build.{Outcome, refused}
 use Rattle.build.proofs.Refusing.Ladder.{pass_at, if_passed, at_passed}

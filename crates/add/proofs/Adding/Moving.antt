@@ -17,8 +17,7 @@ use Rattle.lists.proofs.Entries.Members.{get_d_map, get_d_in}
 use Rattle.vectors.specs.Variable.{number_of, row_of, column_of}
 use Rattle.vectors.proofs.Variables.Numbers.{number_split, row_lt}
 use Rattle.rows.specs.Care.{Care, in_row}
-use Rattle.rows.specs.Fit.{first_fit, put}
-use Rattle.rows.specs.declared.Fit.TheVariants.{At}
+use Rattle.rows.specs.Fit.{first_fit, put, At}
 use Rattle.rows.proofs.Fits.First.{fit_at}
 use Rattle.rows.proofs.Fits.Cells.{Distinct, Apart, in_row_lem, row_in, row_apart, fits_free, put_length, put_other, put_own, put_either}
 use Rattle.record.specs.declared.Record.{Record}

@@ -24,7 +24,7 @@ use Rattle.record.proofs.Formed.{well_formed_facts}
 use Rattle.record.proofs.Soundness.{Sound, sound_says}
 use Rattle.recover.specs.Every.{listed, list_in}
 use Rattle.recover.proofs.Every.{listed_entry, listed_sound, holds_listed, holds_list}
-use Rattle.build.specs.declared.Built.{Built}
+use Rattle.build.specs.Built.{Built}
 use Rattle.add.specs.Add.{row_mates, amended_to, add_of}
 use Rattle.add.specs.Facts.{new_row, lifted_cells, HasCell, GetsCell, SameBut, Stays, ChangesLittle, OthersStay}
 use Rattle.add.proofs.Adding.Ends.{Room, Moved, End, ending}

@@ -4,7 +4,7 @@ use native.Mathlib.Numerals.{add-one}
 use native.Mathlib.Omega.{arith}
 use mathlib.Core.Path.{◌≡◌, refl, sym, ap, ap₂, ◌∙◌}
 use mathlib.Core.List.{List, [], ◌∷◌, ◌++◌, map, append-nil, append_assoc, map-append}
-use lib.ListN.{length, get_or, set, take, length-set, length-append}
+use lib.ListN.{length, get_or, set, take, length-append}
 use lib.Seq.{take-suc-set, append_snoc}
 use Rattle.vectors.specs.Bounds.{max_rows}
 use Rattle.rows.specs.Care.{Care}
@@ -16,27 +16,21 @@ use Rattle.add.proofs.Moving.Mates.{past_in, past_out, past_end}
 
 -- the numbers below i are through: done are those of the row, m words are written, and the others' cells are still to be emptied
 pub record Lifting (s : Seat) (aux firsts g₀ words₀ g words : List ℕ) (m i : ℕ) : Type 0 where
-  pub from : 0 < i
   pub done : List Care
   pub joined : done ++ mates_past s aux firsts i ≡ mates s aux firsts
   pub cells : cleared g s.displacement (mates_past s aux firsts i) ≡ bare s aux firsts g₀
   pub count : m ≡ suc (length done)
   pub few : m ≤ i
-  pub size : length g ≡ length g₀
-  pub room : length words ≡ length words₀
   pub written : take m words ≡ take 1 words₀ ++ map column_word done
 
 pub lifting_none : (s : Seat) (aux firsts g words : List ℕ) → Lifting s aux firsts g words g words 1 1
 lifting_none s aux firsts g words =
     record {
-      from = omega arith;
       done = [];
       joined = refl;
       cells = refl;
       count = refl;
       few = omega arith;
-      size = refl;
-      room = refl;
       written = sym (append-nil (take 1 words));
     }
 
@@ -46,14 +40,11 @@ module _ {s : Seat} {aux firsts g₀ words₀ g words : List ℕ} {m i : ℕ} (l
   lifting_skip h ne =
       let e = past_out s aux firsts i h ne in
       record {
-        from = omega arith;
         done = l.done;
         joined = ap (λ (cs : List Care). l.done ++ cs) (sym e) ∙ l.joined;
         cells = ap (cleared g s.displacement) (sym e) ∙ l.cells;
         count = l.count;
         few = omega (arith, l.few);
-        size = l.size;
-        room = l.room;
         written = l.written;
       }
 
@@ -67,7 +58,6 @@ module _ {s : Seat} {aux firsts g₀ words₀ g words : List ℕ} {m i : ℕ} (l
       let z : cell_of c s.displacement ≡ cell = omega arith in
       let w : v ≡ column_word c = f ∙ ap (λ (n : ℕ). max_rows * (n - s.displacement)) e in
       record {
-        from = omega arith;
         done = l.done ++ (c ∷ []);
         joined = append_snoc l.done c (mates_past s aux firsts (i + 1)) ∙ ap (λ (cs : List Care). l.done ++ cs) (sym q) ∙ l.joined;
         cells =
@@ -76,8 +66,6 @@ module _ {s : Seat} {aux firsts g₀ words₀ g words : List ℕ} {m i : ℕ} (l
             ∙ l.cells;
         count = omega (arith, l.count, length-append l.done (c ∷ []));
         few = omega (arith, l.few);
-        size = length-set g cell 0 ∙ l.size;
-        room = length-set words m v ∙ l.room;
         written =
             ap (λ (n : ℕ). take n (set words m v)) (add-one m)
             ∙ take-suc-set words m v b

@@ -8,15 +8,13 @@ use lib.ListN.{length, set, drop, take-append-drop, length-append}
 use lib.Seq.{length-take-le}
 use Rattle.vectors.specs.Bounds.{max_cells}
 use Rattle.rows.specs.Care.{Care}
-use Rattle.rows.specs.Fit.{first_fit, put}
-use Rattle.rows.specs.declared.Fit.{Fit}
-use Rattle.rows.specs.declared.Fit.TheVariants.{At, None}
+use Rattle.rows.specs.Fit.{first_fit, put, Fit, At, None}
 use Rattle.rows.proofs.Fits.First.{fit_low}
 use Rattle.rows.proofs.Fits.Cells.{put_length}
 use Rattle.record.specs.declared.Record.{Record}
 use Rattle.record.specs.Record.{blank_record}
 use Rattle.record.specs.Tables.{Tables, lent, over}
-use Rattle.build.specs.declared.Built.{Built}
+use Rattle.build.specs.Built.{Built}
 use Rattle.build.specs.Build.{Outcome, after, refused, accepted}
 use Rattle.recover.specs.Every.{listed}
 use Rattle.add.specs.declared.Seat.{Seat}

@@ -15,9 +15,8 @@ use Rattle.lists.proofs.Tests.{and_true}
 use Rattle.lists.proofs.Entries.Joined.{all_append}
 use Rattle.vectors.specs.Bounds.{max_cells, max_words, max_rows}
 use Rattle.rows.specs.Care.{Care, keep}
-use Rattle.rows.specs.Fit.{cell_of, inside, first_fit, put}
+use Rattle.rows.specs.Fit.{cell_of, inside, first_fit, put, At}
 use Rattle.rows.specs.Single.{column_word, single_fit}
-use Rattle.rows.specs.declared.Fit.TheVariants.{At}
 use Rattle.rows.proofs.Fits.First.{fit_inside}
 use Rattle.rows.proofs.Fits.Columns.{inside_joined, inside_all, put_joined}
 use Rattle.rows.proofs.Answers.Single.{single_columns}

@@ -22,7 +22,7 @@ pub bounds-firsts-i : goal.bounds-firsts-i
 bounds-firsts-i c = omega (arith, few (goal.at.bounds-firsts-i c).Else-outside, c.requires.sizes)
 
 pub overflow_cast-firsts : goal.overflow_cast-firsts
-overflow_cast-firsts c = omega (arith, c.shared_slice_known-4-1.given c.index-i.result)
+overflow_cast-firsts c = omega (arith, c.type_inv.firsts c.index-i.result)
 
 pub returns-then-firsts-i : goal.returns-then-firsts-i
 returns-then-firsts-i c = λ h aux f. number_later _ _ _ _ c.index-i.ensures c.args.firsts.now f (sym c.outside.ensures ∙ c.if-outside.false) c.if-firsts-i.true

@@ -2,9 +2,7 @@
 use Rattle.std.specs.Prelude.{ℕ, zero, suc, ◌-◌, ◌%◌, ◌^◌, ◌≤◌, ◌<◌, ◌≡◌, List, [], ◌∷◌, ◌++◌, eqb, length, get_or, set}
 use Rattle.vectors.specs.Bounds.{max_rows}
 use Rattle.rows.specs.Care.{Care, keep}
-use Rattle.rows.specs.Fit.{cell_of, put}
-use Rattle.rows.specs.declared.Fit.{Fit}
-use Rattle.rows.specs.declared.Fit.TheVariants.{At, None}
+use Rattle.rows.specs.Fit.{cell_of, put, Fit, At, None}
 use Rattle.add.specs.declared.Seat.{Seat}
 
 -- the row that a word of AUX has

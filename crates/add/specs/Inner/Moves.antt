@@ -1,8 +1,7 @@
 -- The new vector placed, by its seat and the first cells.
 use Rattle.std.specs.Prelude.{ℕ, suc, ◌+◌, ◌^◌, ◌≤◌, ◌<◌, Bool, true, false, ◌&&◌, List, ltb, length, set, take}
 use Rattle.vectors.specs.Bounds.{max_vectors, max_variables, max_cells, max_rows}
-use Rattle.rows.specs.Fit.{is_free, first_fit, put}
-use Rattle.rows.specs.declared.Fit.TheVariants.{At, None}
+use Rattle.rows.specs.Fit.{is_free, first_fit, put, At, None}
 use Rattle.record.specs.declared.Record.{Record}
 use Rattle.record.specs.Record.{excess_of}
 use Rattle.record.specs.Tables.{Tables, over}

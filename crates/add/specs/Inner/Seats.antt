@@ -1,5 +1,5 @@
 -- Where a vector belongs, and which number's first cell that is.
-use Rattle.std.specs.Prelude.{ℕ, suc, ◌≤◌, ◌<◌, ◌≡◌, List, get_or}
+use Rattle.std.specs.Prelude.{ℕ, suc, ◌≤◌, ◌<◌, ◌≡◌, Option, Some, List, get_or}
 use Rattle.vectors.specs.Variable.{row_of, column_of}
 use Rattle.record.specs.declared.Record.{Record}
 use Rattle.record.specs.Record.{kinds_in}
@@ -23,7 +23,7 @@ seat_of u h x =
 abbrev pub FirstsAre : Record → Tables → List ℕ → Type 0
 FirstsAre u t firsts = (i : ℕ) → 0 < i → i ≤ u.k → get_or firsts i 0 ≡ first_cell u t i
 
--- r is the number whose first cell this is; 0 where there is none
-pub record NumberAt (u : Record) (t : Tables) (cell r : ℕ) : Type 0 where
-  pub only : (i : ℕ) → 0 < i → i ≤ u.k → first_cell u t i ≡ suc cell → r ≡ i
-  pub some : 0 < r → (r ≤ u.k) × (first_cell u t r ≡ suc cell)
+-- r is the number whose first cell this is, where there is one
+pub record NumberAt (u : Record) (t : Tables) (cell : ℕ) (r : Option ℕ) : Type 0 where
+  pub only : (i : ℕ) → 0 < i → i ≤ u.k → first_cell u t i ≡ suc cell → r ≡ Some i
+  pub some : (i : ℕ) → r ≡ Some i → (0 < i) × (i ≤ u.k) × (first_cell u t i ≡ suc cell)

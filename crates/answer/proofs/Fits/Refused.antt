@@ -10,7 +10,7 @@ use Rattle.vectors.specs.Bounds.{max_vectors}
 use Rattle.rows.specs.Allowance.{tries_made}
 use Rattle.rows.proofs.Placing.Allowed.{within_same}
 use Rattle.record.specs.Tables.{Tables}
-use Rattle.build.specs.declared.Refusal.{Refusal}
+use Rattle.build.specs.Built.{Refusal}
 use Rattle.build.specs.Build.{rows_share, placing_of, outcome, chosen_kinds, chosen_refusal, build_chosen}
 use Rattle.build.proofs.Places.{chosen_small}
 use Rattle.build.proofs.Holding.Passed.{chosen_passed}

@@ -23,7 +23,7 @@ use Rattle.record.specs.Record.{record_of, excess_of}
 use Rattle.record.specs.Tables.{Tables}
 use Rattle.record.proofs.Excesses.{excess_fits}
 use Rattle.record.proofs.Marks.{kinds_in_lem}
-use Rattle.build.specs.declared.Refusal.{Refusal}
+use Rattle.build.specs.Built.{Refusal}
 use Rattle.build.specs.Build.{cares_from, placing_of, aux_of}
 use Rattle.build.proofs.Writing.Written.{kept_room}
 use Rattle.build.proofs.Holding.Passed.{Passed}

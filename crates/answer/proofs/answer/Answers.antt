@@ -1,16 +1,14 @@
 use Prim.Native.Nat.{ℕ}
-use mathlib.Core.Path.{ap, ◌∙◌}
+use mathlib.Core.Path.{refl, ap, ◌∙◌}
 use mathlib.Core.List.{List}
-use borrow.Author.Tests.{not-true, not-false}
 use Rattle.print.specs.Print.{fitted}
 use Rattle.answer.proofs.Answers.{answer_bad, answer_good}
 use Rattle.answer.proofs.answer.Goals as goal
 
-pub returns-then-not-made : goal.returns-then-not-made
-returns-then-not-made c =
+pub returns-in_default : goal.returns-in_default
+returns-in_default c =
     c.text.ensures
-    ∙ ap (λ (x : List ℕ). fitted x c.args.out.now) (answer_bad c.args.text.now _ c.make-made.ensures (not-true _ c.if-not-made.true))
+    ∙ ap (λ (x : List ℕ). fitted x c.args.out.now) (answer_bad c.args.text.now _ c.in_default.ensures refl)
 
 pub returns : goal.returns
-returns c =
-    c.print_built.ensures ∙ answer_good c.args.text.now _ c.make-made.ensures c.args.out.now (not-false _ c.if-not-made.false)
+returns c = c.print_built.ensures ∙ answer_good c.args.text.now _ c.in-Some.ensures c.args.out.now refl

@@ -1,6 +1,6 @@
 -- What the call that prints what a build left leaves.
 use Rattle.std.specs.Prelude.{ℕ, true, false, List, eqb}
-use Rattle.build.specs.declared.Built.{Built}
+use Rattle.build.specs.Built.{Built}
 use Rattle.record.specs.Tables.{Tables}
 use Rattle.print.specs.Print.{Printed, fitted, print_of, refused_text}
 

@@ -121,12 +121,19 @@ pub folding_none : (sums runs : List ℕ) → Folding sums runs 0 0 0 0
 unfolding sum_of
 folding_none sums runs = record { both = running_none 4080 lanes sums; running = refl; running_low = omega arith }
 
+-- what a column adds
+pub column_low : (sums runs : List ℕ) (j : ℕ) → Columns lanes sums runs → j < lanes → get_or sums j 0 ≤ 255 * lanes
+column_low sums runs j c h = all_at (λ (u : ℕ). u ≤ 255 * lanes) sums j 0 c.sums_low (omega (arith, c.sums_long))
+
+pub run_low : (sums runs : List ℕ) (j : ℕ) → Columns lanes sums runs → j < lanes → get_or runs j 0 ≤ 4080 * lanes
+run_low sums runs j c h = all_at (λ (u : ℕ). u ≤ 4080 * lanes) runs j 0 c.runs_low (omega (arith, c.runs_long))
+
 pub folding_more : (sums runs : List ℕ) (s t r j : ℕ) → j < lanes → Columns lanes sums runs → Folding sums runs s t r j
     → Folding sums runs (s + get_or sums j 0) (t + (s + get_or sums j 0)) (r + get_or runs j 0) (j + 1)
 folding_more sums runs s t r j h c y =
     let z : ℕ = get_or runs j 0 in
-    let lx : get_or sums j 0 ≤ 255 * lanes = all_at (λ (u : ℕ). u ≤ 255 * lanes) sums j 0 c.sums_low (omega (arith, c.sums_long)) in
-    let lz : z ≤ 4080 * lanes = all_at (λ (u : ℕ). u ≤ 4080 * lanes) runs j 0 c.runs_low (omega (arith, c.runs_long)) in
+    let lx : get_or sums j 0 ≤ 255 * lanes = column_low sums runs j c h in
+    let lz : z ≤ 4080 * lanes = run_low sums runs j c h in
     let two : take (j + 1) runs ≡ take j runs ++ (z ∷ []) = take_more runs j 0 (omega (arith, c.runs_long)) in
     let q : sum_of (take (j + 1) runs) ≡ sum_of (take j runs) + z = rw two (sum_end (take j runs) z) in
     record {

@@ -1,6 +1,6 @@
 -- Words of m bytes laid into an opened block, and the block sealed. Assumes nothing.
 use mathlib.Core.Path.{◌≡◌, refl, sym, ap, ap₂, ◌∙◌}
-use mathlib.Core.Bool.{true, false}
+use mathlib.Core.Bool.{true}
 use mathlib.Core.List.{List, [], ◌∷◌, ◌++◌, append_assoc, append-nil}
 use Prim.Native.Nat.{ℕ, zero, suc, ◌+◌, ◌-◌, ◌*◌, ◌/◌, ◌≤◌, ◌<◌, min}
 use native.Mathlib.Nat.{mul-le-mul_left}
@@ -8,7 +8,7 @@ use native.Mathlib.Omega.{arith}
 use lib.Dec.{eqb}
 use lib.ListN.{length, get_or, take, drop, replicate, length-append, length-replicate, length-take, drop_of_length-le}
 use lib.Seq.{sets, sets-eq, length-sets, length-take-le, take_at, take-append-add, drop-append-add}
-use borrow.Author.Tests.{eq-eqb, ne_eqb}
+use borrow.Author.Tests.{eq-eqb}
 use Rattle.lists.proofs.Entries.Members.{take_more}
 use Rattle.lists.proofs.Entries.Parts.{take_least}
 use Rattle.lists.proofs.Writing.Over.{drop_replicate}
@@ -149,7 +149,3 @@ laying_end m per o words entry base b b' r i last fit n e el h y eb q =
     let s₃ : take check_at b' ≡ padded check_at (a ++ w) = ap (take check_at) (s₂ ∙ front (a ++ w ++ z) entry (omega arith)) ∙ take_at (a ++ w ++ z) _ check_at nz in
     let yes : eqb (length entry) block_size ≡ true = eq-eqb (length entry) block_size n in
     q ∙ ap sealed s₃ ∙ sym (rw (in_block, yes))
-
--- a slice of another length
-pub other_length : (new entry : List ℕ) → (length entry ≡ block_size → ⊥) → entry ≡ in_block new entry
-other_length new entry h = let no : eqb (length entry) block_size ≡ false = ne_eqb (length entry) block_size h in sym (rw (in_block, no))

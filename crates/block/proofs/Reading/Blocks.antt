@@ -1,10 +1,10 @@
 -- The parts of a block: its opening, its payload, the zeros behind it, and the check. Assumes nothing.
-use mathlib.Core.Path.{◌≡◌, refl, sym, ap, ◌∙◌}
+use mathlib.Core.Path.{◌≡◌, sym, ap, ◌∙◌}
 use mathlib.Core.List.{List, ◌++◌, append_assoc}
-use Prim.Native.Nat.{ℕ, ◌+◌, ◌-◌, ◌≤◌}
+use Prim.Native.Nat.{ℕ, ◌-◌, ◌≤◌}
 use native.Mathlib.Omega.{arith}
 use lib.ListN.{length, take, drop, replicate, length-append}
-use lib.Seq.{take_at, drop_at, drop-drop}
+use lib.Seq.{take_at, drop_at}
 use Rattle.block.specs.declared.Opening.{Opening}
 use Rattle.block.specs.Bytes.{words_of, words_at}
 use Rattle.block.specs.Block.{payload_at, check_at, opening_of, padded, check_of, block_of}
@@ -26,15 +26,8 @@ module _ (o : Opening) (payload : List ℕ) where
       append_assoc (opening_of o ++ payload) unused (check_of body_of)
       ∙ append_assoc (opening_of o) payload (unused ++ check_of body_of)
 
-  pub block_opening : take payload_at (block_of o payload) ≡ opening_of o
-  block_opening = ap (take payload_at) block_parts ∙ take_at (opening_of o) _ payload_at (length_opening o)
-
   pub block_payload : drop payload_at (block_of o payload) ≡ payload ++ (unused ++ check_of body_of)
   block_payload = ap (drop payload_at) block_parts ∙ drop_at (opening_of o) _ payload_at (length_opening o)
-
-  pub block_unused : drop (payload_at + length payload) (block_of o payload) ≡ unused ++ check_of body_of
-  block_unused =
-      sym (drop-drop (length payload) payload_at (block_of o payload)) ∙ ap (drop (length payload)) block_payload ∙ drop_at payload _ (length payload) refl
 
   module _ (fits : length payload ≤ check_at - payload_at) where
     length_body : length body_of ≡ check_at

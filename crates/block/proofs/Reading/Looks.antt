@@ -2,24 +2,29 @@
 use mathlib.Core.Path.{◌≡◌, refl, sym, ap, ap₂, ◌∙◌}
 use mathlib.Core.Bool.{Bool, true, false, ◌&&◌}
 use mathlib.Core.List.{List, [], ◌∷◌, ◌++◌}
-use Prim.Native.Nat.{ℕ, suc, ◌+◌, ◌*◌, ◌/◌, ◌%◌, ◌^◌, ◌≤◌, ◌<◌, min}
+use Prim.Native.Nat.{ℕ, ◌+◌, ◌-◌, ◌*◌, ◌%◌, ◌^◌, ◌≤◌, ◌<◌, min}
 use native.Mathlib.Nat.{mod-eq_of_lt}
-use native.Mathlib.Numerals.{add-one}
 use native.Mathlib.Omega.{arith}
 use lib.Dec.{eqb}
-use lib.ListN.{length, get_or, take, drop, set, length-take, length-drop, drop_of_length-le}
-use lib.Seq.{sets, take_all, take-add, drop-cons, drop-drop, length-take-le, get_or-take}
+use lib.ListN.{length, get_or, take, drop, set, length-take, length-drop}
+use lib.Seq.{sets, take_all, take-add, drop-drop, length-take-le}
+use lib.Pointwise.{pointwise}
+use Rattle.std.proofs.lemmas.List.{drop_min}
+use Rattle.std.proofs.lemmas.Slice.{between_is}
 use borrow.Author.Tests.{eqb-true, eqb-false, eq-eqb, ne_eqb}
 use Rattle.lists.specs.Members.{every}
 use Rattle.lists.proofs.Tests.{true_iff}
 use Rattle.lists.proofs.Entries.Alls.{all_take, all_drop}
+use Rattle.lists.proofs.Entries.Members.{take_more}
+use Rattle.lists.proofs.Entries.Parts.{take_least}
 use Rattle.lists.proofs.Writing.Storing.{Storing, storing_more, storing_end}
 use Rattle.block.specs.declared.Opening.{Opening}
 use Rattle.block.specs.Bytes.{little_of, value_of, number_at, words_at}
 use Rattle.block.specs.Block.{block_size, payload_at, check_at, modulus, sum_of, weigh, opening_of, check_of, same, right_check}
 use Rattle.block.specs.Look.{blank_from, laid_out, words_over}
+use Rattle.block.proofs.Check.Sums.{sum_end}
 use Rattle.block.proofs.Laying.Words.{length_little, length_opening, length_check}
-use Rattle.block.proofs.Reading.Same.{same_is, same_true, same_other, same_append}
+use Rattle.block.proofs.Reading.Same.{same_is, same_true, same_other, same_append, same_pointwise}
 use Rattle.block.proofs.Reading.Numbers.{Bytes, value_little, little_value}
 use Rattle.block.proofs.Reading.Places.{length_words_at, word_at}
 
@@ -71,51 +76,46 @@ none_in_sum (b ∷ l) = go (eqb b 0) refl (none_in_sum l)
     go true e r = let z : b + sum_of l ≡ sum_of l = omega (arith, eqb-true b 0 e) in rw z r
     go false e r = ne_eqb (b + sum_of l) 0 (λ z. eqb-false b 0 e (omega arith))
 
--- the loop at place i: what is summed, and what is left
-pub record Seeking (at : ℕ) (b : List ℕ) (s i : ℕ) : Type 0 where
-  pub is : s + sum_of (drop i (take check_at b)) ≡ sum_of (drop at (take check_at b))
+-- the loop at byte i of l
+pub record Summing (l : List ℕ) (s i : ℕ) : Type 0 where
+  pub is : s ≡ sum_of (take i l)
   pub low : s ≤ 255 * i
 
-module _ (at : ℕ) (b : List ℕ) where
-  pub seeking_none : Seeking at b 0 at
-  seeking_none = record { is = omega arith; low = omega arith }
+pub summing_none : (l : List ℕ) → Summing l 0 0
+unfolding sum_of
+summing_none l = record { is = refl; low = omega arith }
 
-  pub seeking_more : (s i x : ℕ) → i < min check_at (length b) → x ≡ get_or b i 0 → x < 256 → Seeking at b s i → Seeking at b (s + x) (i + 1)
-  unfolding sum_of
-  seeking_more s i x h e low k =
-      let d : drop i (take check_at b) ≡ x ∷ drop (i + 1) (take check_at b) =
-      rw (add-one i) (drop-cons (take check_at b) i 0 (omega (arith, length-take check_at b)) ∙ ap (λ (y : ℕ). y ∷ drop (suc i) (take check_at b)) (get_or-take check_at b i 0 (omega arith) ∙ sym e)) in
-      record { is = omega (arith, ap sum_of d, k.is); low = omega (arith, k.low) }
+pub summing_more : (l : List ℕ) (s i x : ℕ) → i < length l → x ≡ get_or l i 0 → x ≤ 255 → Summing l s i → Summing l (s + x) (i + 1)
+summing_more l s i x h e low k =
+    let t : take (i + 1) l ≡ take i l ++ (get_or l i 0 ∷ []) = take_more l i 0 h in
+    record { is = omega (arith, e, k.is, ap sum_of t, sum_end (take i l) (get_or l i 0)); low = omega (arith, k.low) }
 
-  pub seeking_end : (s i : ℕ) → min check_at (length b) ≤ i → Seeking at b s i → eqb s 0 ≡ blank_from at b
-  unfolding blank_from sum_of
-  seeking_end s i h k =
-      let d : drop i (take check_at b) ≡ [] = drop_of_length-le (take check_at b) {i = i} (omega (arith, length-take check_at b)) in
-      let e : s ≡ sum_of (drop at (take check_at b)) = omega (arith, ap sum_of d, k.is) in
-      ap (λ (n : ℕ). eqb n 0) e ∙ none_in_sum (drop at (take check_at b))
+module _ (b : List ℕ) (at end from : ℕ) (e : end ≡ min check_at (length b)) (f : from ≡ min at end) where
+  -- the bytes that are summed
+  abbrev pub looked_at : List ℕ
+  looked_at = take (end - from) (drop from b)
+
+  looked_is : looked_at ≡ drop at (take check_at b)
+  looked_is =
+      let l : List ℕ = take check_at b in
+      let t : take end b ≡ l = ap (λ (i : ℕ). take i b) e ∙ take_least check_at b (length b) refl in
+      let n : from ≡ min at (length l) = f ∙ ap (min at) (e ∙ sym (length-take check_at b)) in
+      between_is b from end ∙ ap (drop from) t ∙ ap (λ (i : ℕ). drop i l) n ∙ drop_min at l
+
+  pub summing_end : (s i : ℕ) → length looked_at ≤ i → Summing looked_at s i → eqb s 0 ≡ blank_from at b
+  unfolding blank_from
+  summing_end s i h k =
+      let w : take i looked_at ≡ drop at (take check_at b) = take_all i looked_at h ∙ looked_is in
+      ap (λ (n : ℕ). eqb n 0) (k.is ∙ ap sum_of w) ∙ none_in_sum (drop at (take check_at b))
 
 -- ---- the opening
 
-first_four : (b : List ℕ) → payload_at ≤ length b → take payload_at b ≡ get_or b 0 0 ∷ get_or b 1 0 ∷ get_or b 2 0 ∷ get_or b 3 0 ∷ []
-first_four [] h = absurd (omega arith)
-first_four (w ∷ []) h = absurd (omega arith)
-first_four (w ∷ x ∷ []) h = absurd (omega arith)
-first_four (w ∷ x ∷ y ∷ []) h = absurd (omega arith)
-first_four (w ∷ x ∷ y ∷ z ∷ b) h = refl
-
-module _ (o : Opening) (at : ℕ) (b : List ℕ) where
-  pub laid_short : length b < payload_at → laid_out o at b ≡ false
-  unfolding laid_out
-  laid_short h =
-      let no : same (opening_of o) (take payload_at b) ≡ false = same_other (opening_of o) (take payload_at b) (λ e. omega (arith, length_opening o, length-take payload_at b)) in
-      rw no
-
-  -- byte by byte
-  pub laid_is : payload_at ≤ length b
-      → laid_out o at b
-      ≡ (eqb o.kind (get_or b 0 0) && (eqb o.version (get_or b 1 0) && (eqb (o.number % 256) (get_or b 2 0) && (eqb (o.number / 256 % 256) (get_or b 3 0) && true)))) && blank_from at b
-  unfolding laid_out opening_of little_of same
-  laid_is h = ap (λ (l : List ℕ). same (opening_of o) l && blank_from at b) (first_four b h)
+pub laid_is : (o : Opening) (at : ℕ) (b bytes : List ℕ) → bytes ≡ opening_of o → laid_out o at b ≡ (pointwise eqb bytes (take (length bytes) b) && blank_from at b)
+unfolding laid_out
+laid_is o at b bytes e =
+    let n : length bytes ≡ payload_at = ap length e ∙ length_opening o in
+    ap₂ (λ (x : List ℕ) (i : ℕ). same x (take i b) && blank_from at b) (sym e) (sym n)
+    ∙ ap (λ (t : Bool). t && blank_from at b) (sym (same_pointwise bytes (take (length bytes) b)))
 
 -- ---- the words
 

@@ -1,12 +1,16 @@
 -- The bytes of a number, and the number that bytes make. Assumes nothing.
 use mathlib.Core.Path.{◌≡◌, refl, sym, ap, ap₂, ◌∙◌}
-use mathlib.Core.List.{List, [], ◌∷◌}
-use Prim.Native.Nat.{ℕ, zero, suc, ◌+◌, ◌*◌, ◌/◌, ◌%◌, ◌^◌, ◌<◌}
+use mathlib.Core.List.{List, [], ◌∷◌, ◌++◌}
+use Prim.Native.Nat.{ℕ, zero, suc, ◌+◌, ◌*◌, ◌/◌, ◌%◌, ◌^◌, ◌-◌, ◌≤◌, ◌<◌}
 use native.Mathlib.Nat.{mod-one, mod-lt, pow-suc, one-le-pow}
 use native.Mathlib.Omega.{arith}
 use lib.Arith.{mod-mul}
-use lib.ListN.{length}
+use lib.ListN.{length, drop, replicate, length-append, length-replicate}
+use borrow.Rule.Slice.PartMut.{put_mid}
+use Rattle.std.proofs.Common.{w64}
+use Rattle.std.specs.Int.{from_le_bytes}
 use Rattle.lists.specs.Members.{All}
+use Rattle.lists.proofs.Writing.Over.{drop_replicate}
 use Rattle.block.specs.Bytes.{little_of, value_of}
 use Rattle.block.proofs.Laying.Words.{length_little}
 
@@ -41,3 +45,24 @@ little_value (suc m) (x ∷ b) e a =
 -- bytes see a number modulo 256^m
 pub little_mod : (m w : ℕ) → little_of m (w % 256 ^ m) ≡ little_of m w
 little_mod m w = ap (little_of m) (sym (value_little m w)) ∙ little_value m (little_of m w) (length_little m w) (little_bytes m w)
+
+-- ---- eight bytes
+
+-- zeros behind bytes add nothing
+value_zeros : (b : List ℕ) (n : ℕ) → value_of (b ++ replicate n 0) ≡ value_of b
+unfolding value_of
+value_zeros [] zero = refl
+value_zeros [] (suc n) = omega (arith, value_zeros [] n)
+value_zeros (x ∷ b) n = ap (λ (v : ℕ). x + 256 * v) (value_zeros b n)
+
+value_eight : (b : List ℕ) → length b ≡ 8 → from_le_bytes w64 b ≡ value_of b
+unfolding value_of
+value_eight (a ∷ b ∷ c ∷ d ∷ e ∷ f ∷ g ∷ h ∷ []) n = omega arith
+value_eight _ n = absurd (omega arith)
+
+-- so many bytes read as the first of eight, the others 0
+pub value_part : (s : ℕ) (b : List ℕ) → length b ≡ s → s ≤ 8 → from_le_bytes w64 (put_mid 0 s (replicate 8 0) b) ≡ value_of b
+value_part s b n h =
+    let z : drop s (replicate 8 0) ≡ replicate (8 - s) 0 = drop_replicate s 8 0 in
+    let e : put_mid 0 s (replicate 8 0) b ≡ b ++ replicate (8 - s) 0 = ap (λ (l : List ℕ). b ++ l) z in
+    ap (from_le_bytes w64) e ∙ value_eight (b ++ replicate (8 - s) 0) (length-append b (replicate (8 - s) 0) ∙ omega (arith, length-replicate {A = ℕ} (8 - s) 0)) ∙ value_zeros b (8 - s)

@@ -6,6 +6,7 @@ use Prim.Native.Nat.{ℕ}
 use native.Mathlib.Omega.{arith}
 use lib.Dec.{eqb}
 use lib.ListN.{length}
+use lib.Pointwise.{pointwise}
 use borrow.Author.Tests.{eqb-true, eq-eqb}
 use Rattle.lists.proofs.Tests.{and_true, and_assoc}
 use Rattle.block.specs.Block.{same}
@@ -43,3 +44,11 @@ same_append [] b (z ∷ c) d e = absurd (omega arith)
 same_append (x ∷ a) b [] d e = absurd (omega arith)
 same_append (x ∷ a) b (z ∷ c) d e =
     ap (λ (t : Bool). eqb x z && t) (same_append a b c d (omega arith)) ∙ and_assoc (eqb x z) (same a c) (same b d)
+
+-- the test that `==` of bytes makes
+pub same_pointwise : (a b : List ℕ) → pointwise eqb a b ≡ same a b
+unfolding same
+same_pointwise [] [] = refl
+same_pointwise [] (y ∷ b) = refl
+same_pointwise (x ∷ a) [] = refl
+same_pointwise (x ∷ a) (y ∷ b) = ap (λ (t : Bool). eqb x y && t) (same_pointwise a b)

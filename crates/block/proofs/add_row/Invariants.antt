@@ -1,4 +1,4 @@
-use Prim.Native.Nat.{◌+◌, ◌-◌, ◌*◌}
+use Prim.Native.Nat.{◌+◌, ◌*◌}
 use lib.ListN.{take, drop}
 use Rattle.block.specs.Inner.Columns.{lanes}
 use Rattle.block.proofs.Check.Columns.{Adding}
@@ -6,6 +6,3 @@ use Rattle.block.proofs.add_row.Given as goal
 
 abbrev pub invariant-loop-j : goal.invariant-loop-j
 invariant-loop-j l = Adding (take lanes (drop (l.start + lanes * l.row) l.block)) l.row l.initial.sums l.initial.runs l.sums l.runs l.j
-
-abbrev pub decreases-loop-j : goal.decreases-loop-j
-decreases-loop-j l = lanes - l.j

@@ -22,8 +22,8 @@ told c =
     record { plain_is = c.half-a.ensures.plain_value.0; weighed_is = c.half-a.ensures.plain_value.1; plain_low = c.half-a.ensures.plain_bound.0; weighed_low = c.half-a.ensures.plain_bound.1 } in
     let y : Halved (drop half_size b) c.half-b.result.plain c.half-b.result.weighed =
     record { plain_is = c.half-b.ensures.plain_value.0; weighed_is = c.half-b.ensures.plain_value.1; plain_low = c.half-b.ensures.plain_bound.0; weighed_low = c.half-b.ensures.plain_bound.1 } in (
-      omega (arith, whole_plain b c.requires _ _ _ _ x y, c.own-c.ensures.plain_value.0),
-      omega (arith, whole_weighed b c.requires _ _ _ _ x y, c.own-c.ensures.plain_value.1),
+      omega (arith, whole_plain b c.told-block _ _ _ _ x y, c.own-c.ensures.plain_value.0),
+      omega (arith, whole_weighed b c.told-block _ _ _ _ x y, c.own-c.ensures.plain_value.1),
     )
 
 pub overflow_sub-plain : goal.overflow_sub-plain

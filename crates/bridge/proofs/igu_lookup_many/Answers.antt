@@ -2,7 +2,8 @@ use native.Mathlib.Omega.{arith}
 use Rattle.bridge.proofs.Answers.{many_called}
 use Rattle.bridge.proofs.igu_lookup_many.Goals as goal
 
-pub returns : goal.returns
-returns c =
-    let m = c.lookup_many-found in
-    many_called _ _ _ _ _ m.result m.new.indices _ c.seen.ensures m.ensures (omega arith)
+pub returns-in-Ok : goal.returns-in-Ok
+returns-in-Ok c = many_called _ _ _ _ _ _ _ _ c.seen.ensures c.in-Ok.ensures (omega arith)
+
+pub returns-in-Err : goal.returns-in-Err
+returns-in-Err c = many_called _ _ _ _ _ _ _ _ c.seen.ensures c.in-Err.ensures (omega (arith, c.from.ensures, c.number.ensures))

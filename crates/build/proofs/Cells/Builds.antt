@@ -14,13 +14,13 @@ use Rattle.vectors.specs.declared.Kind.{Kind}
 use Rattle.vectors.specs.declared.Variable.{Variable}
 use Rattle.rows.specs.Place.{Placing}
 use Rattle.rows.specs.Allowance.{places_within}
-use Rattle.rows.specs.declared.End.TheVariants.{NoFit}
+use Rattle.rows.specs.End.{NoFit}
 use Rattle.rows.proofs.Placing.Allowed.{within_stuck}
 use Rattle.rows.proofs.Placing.Within.{within_placed, placed_within_lem, over_out, stuck_out}
 use Rattle.record.specs.Record.{record_of}
 use Rattle.record.specs.Tables as tables
 use Rattle.record.specs.Tables.{Tables}
-use Rattle.build.specs.declared.Refusal.{Refusal}
+use Rattle.build.specs.Built.{Refusal}
 use Rattle.build.specs.Refusals.{given_checks, check2_chosen, check2_given, check11, check12}
 use Rattle.build.specs.Build.{rows_share, Outcome, cares_from, placing_of, outcome, chosen_kinds, chosen_refusal, build_chosen, given_refusal, build_given}
 use Rattle.build.specs.Cells.{Builds, chosen_builds, given_builds, Places, Unplaced, Room, with_cells, Accepts, Enough, Wider, used, LeastCells}

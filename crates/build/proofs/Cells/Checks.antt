@@ -8,7 +8,7 @@ use lib.ListN.{length}
 use borrow.Author.Tests.{le-ltb}
 use Rattle.lists.proofs.Tests.{or_false}
 use Rattle.vectors.specs.Bounds.{max_cells, outside}
-use Rattle.build.specs.declared.Refusal.{Refusal}
+use Rattle.build.specs.Built.{Refusal}
 use Rattle.build.specs.Refusals.{refuse_if, ladder, list_checks}
 use Rattle.build.proofs.Refusing.Ladder.{ladder_all, pass_all, pass_at, if_passed, list_passed}
 use Rattle.build.proofs.Holding.Passed.{pass_both}

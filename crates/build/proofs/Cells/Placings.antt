@@ -14,8 +14,8 @@ use Rattle.vectors.specs.declared.Kind.{Kind}
 use Rattle.rows.specs.Care.{Care}
 use Rattle.rows.specs.Place.{Placing, place}
 use Rattle.rows.specs.Needed.{More, places, Keeps, Beside}
-use Rattle.rows.specs.declared.End.TheVariants as ends
-use Rattle.rows.specs.declared.End.TheVariants.{NoFit}
+use Rattle.rows.specs.End as ends
+use Rattle.rows.specs.End.{NoFit}
 use Rattle.rows.proofs.Fits.Filled.{blank_zero}
 use Rattle.rows.proofs.Placing.Wider.{wider_all, least, within_all}
 use Rattle.rows.proofs.Fits.Needed.{past_free}

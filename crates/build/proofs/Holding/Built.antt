@@ -23,7 +23,7 @@ use Rattle.rows.specs.Care.{Care}
 use Rattle.record.specs.declared.Record.{Record}
 use Rattle.vectors.specs.Bounds.{max_inputs, max_vectors, max_cells, max_variables, max_side}
 use Rattle.record.specs.Record.{mark_built, record_of}
-use Rattle.build.specs.declared.Refusal.{Refusal}
+use Rattle.build.specs.Built.{Refusal}
 use Rattle.record.specs.Tables.{Tables, over}
 use Rattle.build.specs.Build.{cares_from, placing_of, aux_of, written}
 use Rattle.record.specs.Leads.{word_in, cell_in}
@@ -33,7 +33,7 @@ use Rattle.record.proofs.Marks.{kinds_in_lem}
 use Rattle.build.proofs.Holding.Passed.{Passed, split_kept}
 use Rattle.build.proofs.Holding.Ends.{placing_rows, placing_cells}
 use Rattle.build.proofs.Holding.Cares.{care_of, cares_in, cares_entry, cares_distinct}
-use Rattle.rows.specs.declared.End.TheVariants.{All}
+use Rattle.rows.specs.End.{All}
 use Rattle.rows.proofs.Fits.Filled.{filled_blank}
 use Rattle.rows.proofs.Placing.Held.{Lies, held_only, all_held}
 

@@ -7,14 +7,13 @@ use mathlib.Core.Logic.{◌⊎◌, inl, inr}
 use native.Mathlib.Nat.{eq-zero-or-pos}
 use lib.ListN.{length, replicate, length-replicate}
 use Rattle.vectors.specs.declared.Kind.{Kind}
-use Rattle.rows.specs.declared.End.{End}
-use Rattle.rows.specs.declared.End.TheVariants.{All, NoFit, Over, Unfit}
+use Rattle.rows.specs.End.{End, All, NoFit, Over, Unfit}
 use Rattle.rows.proofs.Placing.Held.{lengths}
 use Rattle.rows.proofs.Placing.Turns.{ended}
 use Rattle.rows.specs.Allowance.{last_tries, tries_made, end_within}
 use Rattle.rows.proofs.Placing.Allowed.{within_same, within_all, within_unfit}
 use Rattle.record.specs.Record.{mark_built, record_of}
-use Rattle.build.specs.declared.Refusal.{Refusal}
+use Rattle.build.specs.Built.{Refusal}
 use Rattle.record.specs.Tables.{Tables}
 use Rattle.build.specs.Build.{Outcome, cares_from, placing_of, accepted, refused_for, refused, written, zeroed, finish, outcome}
 use Rattle.build.proofs.Refusing.Ladder.{outcome_refused, outcome_passed}

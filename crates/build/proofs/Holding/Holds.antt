@@ -9,7 +9,7 @@ use Rattle.vectors.specs.Variable.{kinds_of}
 use Rattle.vectors.specs.Bounds.{max_variables}
 use Rattle.build.specs.Build.{rows_share, Outcome, outcome, chosen_refusal, build_chosen, given_refusal, build_given, chosen_kinds}
 use Rattle.record.specs.Record.{record_of}
-use Rattle.build.specs.declared.Refusal.{Refusal}
+use Rattle.build.specs.Built.{Refusal}
 use Rattle.record.specs.Tables.{Tables}
 use Rattle.record.specs.Holds.{Holds}
 use Rattle.build.proofs.Holding.Passed.{Passed, chosen_passed, given_passed}

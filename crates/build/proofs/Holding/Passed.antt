@@ -21,7 +21,7 @@ use Rattle.span.proofs.Labels.Edges.{all_edges}
 use Rattle.span.proofs.Count.{kept_number}
 use Rattle.vectors.specs.Bounds.{max_variables, max_side}
 use Rattle.build.specs.Build.{rows_share, chosen_refusal, given_refusal, chosen_kinds}
-use Rattle.build.specs.declared.Refusal.{Refusal}
+use Rattle.build.specs.Built.{Refusal}
 use Rattle.build.specs.Refusals.{or_else, ladder, list_checks, given_checks, check2_chosen, check2_given, check11, check12}
 use Rattle.record.specs.Tables.{Tables}
 use Rattle.build.specs.Inner.Ready.{Split}

@@ -11,8 +11,11 @@ use Rattle.vectors.specs.declared.Variable.{Variable}
 use Rattle.vectors.specs.Variable.{kinds_of}
 use Rattle.choice.specs.Choice.{choose, apart}
 use Rattle.vectors.specs.Bounds.{max_variables}
-use Rattle.build.specs.Build.{rows_share, refused, outcome, chosen_refusal, given_refusal, build_chosen, build_given}
-use Rattle.build.specs.declared.Refusal.{Refusal}
+use Rattle.build.specs.Build.{rows_share, after, refused, outcome, chosen_refusal, given_refusal, build_chosen, build_given}
+use Rattle.std.proofs.Common.{Err}
+use Rattle.refusal.specs.declared.Refused.{Refused}
+use Rattle.build.specs.Built.{Refusal, Built, told, refused_as}
+use Rattle.refusal.proofs.Numbers.{numbered}
 use Rattle.build.specs.Refusals.{ladder, refuse_if, list_checks, given_checks, check2_chosen, check2_given, check11, check12}
 use Rattle.record.specs.Tables.{Tables}
 use Rattle.build.proofs.Refusing.Ladder.{ladder_append, or_given, or_passed, if_yes, if_no, outcome_refused}
@@ -32,6 +35,10 @@ ladder_first ps qs r e h = ladder_append ps qs ∙ rw (← e) (or_given r (ladde
 
 ladder_second : (ps qs : List Refusal) → (ladder ps).number ≡ 0 → ladder (ps ++ qs) ≡ ladder qs
 ladder_second ps qs h = ladder_append ps qs ∙ or_passed (ladder ps) (ladder qs) h
+
+-- a refusal of the code has a number
+has_number : (e : Refused) (r : Refusal) → told (Err e) ≡ refused_as r → r.number ≡ 0 → ⊥
+has_number e r h z = omega (arith, numbered e.refusal, ap (λ (b : Built). b.refusal) h)
 
 -- ---- variables chosen by rule
 
@@ -53,10 +60,13 @@ module _ (n degree cells a : ℕ) (vs : List ℕ) (t : Tables) where
   unfolding build_chosen
   by_refusal r e = rw e
 
-  pub chosen_list_lem : (r : Refusal) → r ≡ ladder list → (r.number ≡ 0 → ⊥) → refused r t ≡ build_chosen n degree cells a vs t
+  pub chosen_list_lem : (e : Refused) → told (Err e) ≡ refused_as (ladder list) → after (told (Err e)) t.h t.g t.aux ≡ build_chosen n degree cells a vs t
   unfolding chosen_refusal
-  chosen_list_lem r e h =
-      sym (by_refusal r (ladder_first list (check11 ks vs ∷ check12 n1 t.h ∷ []) r e h) ∙ outcome_refused r n n1 ks cells a vs t h)
+  chosen_list_lem e h =
+      let r = ladder list in
+      let some = has_number e r h in
+      ap (λ (b : Built). after b t.h t.g t.aux) h
+      ∙ sym (by_refusal r (ladder_first list (check11 ks vs ∷ check12 n1 t.h ∷ []) r refl some) ∙ outcome_refused r n n1 ks cells a vs t some)
 
   module _ (h : (ladder list).number ≡ 0) where
     pub chosen_apart : apart vs ks ≡ false → refused (record { number = 11; place = 0 }) t ≡ build_chosen n degree cells a vs t
@@ -94,19 +104,25 @@ module _ (n : ℕ) (variables : List Variable) (p n1 cells a : ℕ) (vs : List �
   unfolding build_given
   by_given r e = rw e
 
-  pub given_list_lem : (r : Refusal) → r ≡ ladder own → (r.number ≡ 0 → ⊥) → refused r t ≡ build_given n variables p n1 cells a vs t
+  pub given_list_lem : (e : Refused) → told (Err e) ≡ refused_as (ladder own) → after (told (Err e)) t.h t.g t.aux ≡ build_given n variables p n1 cells a vs t
   unfolding given_refusal
-  given_list_lem r e h =
-      sym (by_given r (ladder_first own (given_checks n gs vs ++ (check12 n1 t.h ∷ [])) r e h) ∙ outcome_refused r n n1 gs cells a vs t h)
+  given_list_lem e h =
+      let r = ladder own in
+      let some = has_number e r h in
+      ap (λ (b : Built). after b t.h t.g t.aux) h
+      ∙ sym (by_given r (ladder_first own (given_checks n gs vs ++ (check12 n1 t.h ∷ [])) r refl some) ∙ outcome_refused r n n1 gs cells a vs t some)
 
   module _ (h : (ladder own).number ≡ 0) where
-    pub given_variables : (r : Refusal) → r ≡ ladder (given_checks n gs vs) → (r.number ≡ 0 → ⊥) → refused r t ≡ build_given n variables p n1 cells a vs t
+    pub given_variables : (e : Refused) → told (Err e) ≡ refused_as (ladder (given_checks n gs vs)) → after (told (Err e)) t.h t.g t.aux ≡ build_given n variables p n1 cells a vs t
     unfolding given_refusal
-    given_variables r e k =
-        sym
+    given_variables e k =
+        let r = ladder (given_checks n gs vs) in
+        let some = has_number e r k in
+        ap (λ (b : Built). after b t.h t.g t.aux) k
+        ∙ sym
         (by_given r
-        (ladder_second own (given_checks n gs vs ++ (check12 n1 t.h ∷ [])) h ∙ ladder_first (given_checks n gs vs) (check12 n1 t.h ∷ []) r e k)
-        ∙ outcome_refused r n n1 gs cells a vs t k)
+        (ladder_second own (given_checks n gs vs ++ (check12 n1 t.h ∷ [])) h ∙ ladder_first (given_checks n gs vs) (check12 n1 t.h ∷ []) r refl some)
+        ∙ outcome_refused r n n1 gs cells a vs t some)
 
     pub given_rest : (ladder (given_checks n gs vs)).number ≡ 0 → build_given n variables p n1 cells a vs t ≡ outcome (check12 n1 t.h) n n1 gs cells a vs t
     unfolding given_refusal

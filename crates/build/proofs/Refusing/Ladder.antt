@@ -14,7 +14,7 @@ use Rattle.lists.proofs.Entries.Members.{all_map}
 use Rattle.lists.proofs.Finding.NonePass.{none_all}
 use Rattle.vectors.specs.declared.Kind.{Kind}
 use Rattle.vectors.specs.Bounds.{max_inputs, max_vectors, max_cells}
-use Rattle.build.specs.declared.Refusal.{Refusal}
+use Rattle.build.specs.Built.{Refusal}
 use Rattle.build.specs.Refusals.{accepted, refuse_if, refuse_at, or_else, ladder, list_checks, first_beyond}
 use Rattle.record.specs.Tables.{Tables}
 use Rattle.record.proofs.Formed.{inside}

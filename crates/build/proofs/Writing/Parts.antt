@@ -9,7 +9,7 @@ use borrow.Author.Tests.{lt-ltb, le-ltb}
 use Rattle.vectors.specs.declared.Kind.{Kind}
 use Rattle.span.specs.Span.{kept}
 use Rattle.vectors.specs.Word.{word_of}
-use Rattle.build.specs.declared.Built.{Built}
+use Rattle.build.specs.Built.{Built}
 use Rattle.record.specs.Record.{mark_built, blank_record, record_of}
 use Rattle.build.specs.Refusals as Refusals
 use Rattle.build.specs.Refusals.{check12}
@@ -18,10 +18,15 @@ use Rattle.build.specs.Build.{Outcome, after, accepted, zeroed, aux_of, cares_fr
 use Rattle.build.proofs.Refusing.Ladder.{outcome_refused, outcome_passed}
 use Rattle.build.proofs.Holding.Ends.{finish_all, finish_stuck, finish_over, placing_ends}
 use Rattle.rows.specs.Allowance.{end_within}
-use Rattle.rows.specs.declared.End.{End}
-use Rattle.rows.specs.declared.End.TheVariants.{All, NoFit, Over, Unfit}
+use Rattle.rows.specs.End.{End, All, NoFit, Over, Unfit}
+use Rattle.rows.specs.declared.Stop.{Stop}
+use Rattle.rows.specs.declared.Stop.TheVariants as stop
+use Rattle.rows.specs.Place.{Placing}
+use Rattle.rows.specs.Answer.{Placed, left, settle}
+use Rattle.rows.specs.Told.{stop_told}
+use Rattle.rows.proofs.Answers.Settled.{same_end, when_all, when_stuck, when_over}
 use Rattle.rows.proofs.Placing.Held.{lengths}
-use Rattle.build.specs.Refusals as Refusals
+use Rattle.build.specs.Inner.Stops.{stopped}
 
 -- ---- words over a table
 
@@ -84,6 +89,28 @@ module _ (n n1 : ℕ) (ks : List Kind) (a : ℕ) (vs h g aux : List ℕ) (sh : l
       → h' ≡ replicate (length h) 0 → g' ≡ replicate (length g) 0 → aux' ≡ replicate (length aux) 0
       → after r h' g' aux' ≡ finish n n1 ks (length g) a vs (lent h g aux)
   end_over row e er eh eg ea = rw (er, zeros eh eg ea) (sym (finish_over n n1 ks (length g) a vs (lent h g aux) row e))
+
+  -- by the answer of the placing
+  abbrev P : Placing
+  P = placing_of n1 ks (length g) vs
+
+  abbrev Settles : Placed → Type 0
+  Settles p = left p h' g' ≡ settle a P (replicate (2 ^ n1) 0) (replicate (length g) 0)
+
+  pub end_placed : (tries : ℕ) → Settles (record { end = All; tries = tries }) → r ≡ accepted (record_of mark_built n n1 (length vs) ks (length g) tries) → aux' ≡ aux_of n n1 ks vs
+      → after r h' g' aux' ≡ finish n n1 ks (length g) a vs (lent h g aux)
+  end_placed tries e er ea =
+      let w = when_all a P (record { end = All; tries = tries }) h' g' _ _ e refl in
+      end_all tries w.end_is w.tries_are er w.rows_are w.cells_are ea
+
+  pub end_stopped : (s : Stop) → Settles (stop_told s) → r ≡ stopped s → aux' ≡ replicate (length aux) 0 → after r h' g' aux' ≡ finish n n1 ks (length g) a vs (lent h g aux)
+  end_stopped (stop.NoFit row tried needed tries) e er ea =
+      let w = when_stuck a P (record { end = NoFit row tried needed; tries = tries }) h' g' _ _ e row tried needed refl in
+      end_stuck row tried needed w.end_is er (w.rows_are ∙ ap (λ (d : ℕ). replicate d 0) (sym sh)) w.cells_are ea
+  end_stopped (stop.Over row) e er ea =
+      let w = when_over a P (record { end = Over row; tries = 0 }) h' g' _ _ e row refl in
+      end_over row w.end_is er (w.rows_are ∙ ap (λ (d : ℕ). replicate d 0) (sym sh)) w.cells_are ea
+  end_stopped stop.Unfit e er ea = absurd (placing_ends n1 ks (length g) vs a (same_end a P (record { end = Unfit; tries = 0 }) h' g' _ _ e))
 
 -- ---- parts of tables: what is written to the parts is written to the tables, and the words beyond keep their value
 

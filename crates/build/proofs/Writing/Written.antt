@@ -9,12 +9,11 @@ use lib.Count.{ones}
 use lib.IntN.{ℤ}
 use lib.ListN.{length, take, drop, replicate, length-map, length-replicate}
 use lib.Pow.{pow_mono}
-use lib.Seq.{take-take}
 use Rattle.lists.specs.Members.{All}
 use Rattle.lists.proofs.Entries.Members.{map_take, map_drop, map_same}
 use Rattle.vectors.specs.declared.Kind.{Kind}
 use Rattle.vectors.specs.declared.Variable.{Variable}
-use Rattle.vectors.specs.Variable.{mask_of, row_of, column_of, kinds_of}
+use Rattle.vectors.specs.Variable.{mask_of, row_of, column_of}
 use Rattle.span.specs.Span.{kept}
 use Rattle.vectors.specs.Word.{word_of}
 use Rattle.vectors.proofs.Variables.Numbers.{row_lt, column_lt}
@@ -25,7 +24,6 @@ use Rattle.rows.specs.Care.{Care, cares_by}
 use Rattle.rows.specs.Answer.{care_of, cares_from, cares_in, cares_of, astray, unfit, settle, settled, placed}
 use Rattle.vectors.specs.Bounds.{max_inputs, max_side, max_vectors, max_cells}
 use Rattle.record.specs.Record.{mark_built, record_of, excess_of, variables_of}
-use Rattle.build.specs.Build as build
 use Rattle.vectors.specs.Masks.{masks_of, word_by}
 use Rattle.build.specs.Inner.Places.{place_by}
 use Rattle.build.specs.Inner.Ready.{Listed, Split}
@@ -33,12 +31,6 @@ use Rattle.vectors.proofs.Variables.Masking.{number_masks, word_masks}
 use Rattle.rows.proofs.Answers.Owned.{owned_none}
 use Rattle.rows.proofs.Answers.Unfit.{astray_none, astray_more, fit_is, placed_fit}
 use Rattle.build.specs.Build as build
-
--- ---- the masks of the row variables
-
-pub row_masks : (vs : List Variable) (m : List ℕ) (p n1 : ℕ) → n1 ≤ p → take p m ≡ masks_of (kinds_of (take p vs)) → take n1 m ≡ masks_of (take n1 (kinds_of (take p vs)))
-row_masks vs m p n1 h e =
-    sym (take-take n1 p m h) ∙ ap (take n1) e ∙ sym (map_take (λ (k : Kind). mask_of k % 2 ^ max_inputs) n1 (kinds_of (take p vs)))
 
 -- ---- a vector of the list fits a word
 
@@ -58,8 +50,8 @@ words_are {n} {n1} {ks} {vs} l s =
 -- the record
 pub unit_is : (n n1 k cells tries p kept' : ℕ) (ks : List Kind) (excess' : ℤ) (variables' : List Variable) → p ≡ length ks → kept' ≡ kept n ks → excess' ≡ excess_of p k
     → variables' ≡ variables_of n1 ks
-    → record { refusal = 0; place = 0; needed = 0; unit = record { n = n; p = p; n1 = n1; k = k; cells = cells; kept = kept'; tries = tries; excess = excess'; variables = variables'; mark = mark_built } }
-    ≡ build.accepted (record_of mark_built n n1 k ks cells tries)
+    → record { n = n; p = p; n1 = n1; k = k; cells = cells; kept = kept'; tries = tries; excess = excess'; variables = variables'; mark = mark_built }
+    ≡ record_of mark_built n n1 k ks cells tries
 unfolding record_of
 unit_is n n1 k cells tries p kept' ks excess' variables' e f g h = rw (g, e, f, h)
 

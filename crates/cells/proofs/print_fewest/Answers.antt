@@ -1,11 +1,15 @@
-use mathlib.Core.Path.{◌∙◌}
+use native.Mathlib.Omega.{arith}
+use mathlib.Core.Path.{refl, ◌∙◌}
+use Rattle.std.specs.Prelude.{Err}
+use Rattle.refusal.proofs.Numbers.{numbered}
+use Rattle.build.specs.Built.{told}
 use Rattle.cells.proofs.Counts.{fewest_accepted, fewest_refused}
 use Rattle.cells.proofs.print_fewest.Goals as goal
 
-pub returns-then-built-eq0 : goal.returns-then-built-eq0
-returns-then-built-eq0 c =
-    c.sentence.ensures ∙ fewest_accepted c.args.built c.args.g.now c.args.out.now _ c.used.ensures c.if-built-eq0.true
+pub returns-in-Ok : goal.returns-in-Ok
+returns-in-Ok c = rw c.in-Ok.is (c.sentence.ensures ∙ fewest_accepted _ c.args.g.now c.args.out.now _ c.used.ensures refl)
 
-pub returns : goal.returns
-returns c =
-    c.refused.ensures ∙ fewest_refused c.args.built c.args.g.now c.args.out.now c.if-built-eq0.false
+pub returns-in-Err : goal.returns-in-Err
+returns-in-Err c =
+    rw c.in-Err.is
+    (c.refused.ensures ∙ fewest_refused (told (Err c.in-Err.refused)) c.args.g.now c.args.out.now (λ z. omega (arith, numbered c.in-Err.refused.refusal)))

@@ -14,8 +14,7 @@ use Rattle.vectors.specs.Bounds.{max_inputs, max_vectors, max_variables, outside
 use Rattle.vectors.specs.Variable.{kinds_of}
 use Rattle.choice.specs.Choice.{candidates, choose, apart}
 use Rattle.choice.proofs.Choice.Steps.{choice_few}
-use Rattle.choice.specs.declared.Chosen.{Chosen}
-use Rattle.choice.specs.Choosing.{row_variable, placed, chosen_by, none_chosen, chosen_in}
+use Rattle.choice.specs.Choosing.{Chosen, row_variable, placed, chosen_by, none_chosen, chosen_in}
 
 -- ---- the bounds
 

@@ -20,13 +20,12 @@ use Rattle.choice.proofs.Choice.Steps.{choose_stop, choose_more}
 use Rattle.choice.specs.Inner.Split.{refined, whole, squares}
 use Rattle.choice.proofs.Choice.Grouped.{Grouped, grouped_none, grouped_more, grouped_apart, grouped_empty}
 use Rattle.choice.proofs.Choice.Squares.{square_of, squares_map, squares_next}
-use Rattle.choice.specs.declared.Chosen.{Chosen}
 use Rattle.choice.specs.declared.groups.Groups.{Groups}
 use Rattle.vectors.specs.Bounds.{max_inputs, max_variables}
 use Rattle.choice.specs.Inner.Groups.{cut, Shape, GroupsAre, groups_of, sizes_of, order_of, value_at}
 use Rattle.choice.specs.Inner.Best.{score_of}
 use Rattle.choice.specs.Inner.Ties.{Ties, later_of}
-use Rattle.choice.specs.Choosing.{row_variable, placed, chosen_as, chosen_by}
+use Rattle.choice.specs.Choosing.{Chosen, row_variable, placed, chosen_as, chosen_by}
 use Rattle.choice.proofs.Grouping.Cut.{cut_map, cut_length}
 use Rattle.choice.proofs.Choosing.Ties.{ties_more}
 

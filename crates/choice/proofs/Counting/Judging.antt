@@ -15,7 +15,7 @@ use lib.Seq.{drop-cons}
 use Rattle.vectors.specs.Bounds.{max_inputs}
 use Rattle.choice.specs.Inner.Layout.{max_blocks}
 use Rattle.choice.proofs.Counting.Splits.{splits_half}
-use Rattle.choice.specs.Inner.Judged.{max_gain, columns_size, column_at, cross_at, tally_at, gain_at, Pairs, Sheet, Judges}
+use Rattle.choice.specs.Inner.Judged.{max_gain, columns_size, column_at, cross_at, tally_at, gain_at, Pairs, Judgeable, Judges}
 use Rattle.choice.specs.Inner.Gain.{splits, whole_gain, most_of, pair_gain, Counts}
 
 -- ---- two columns
@@ -254,7 +254,7 @@ module _ (columns ends : List ℕ) (blocks i j v w : ℕ) (p : v ≡ whole_gain 
   gain_sum = ap₂ ◌+◌ p q
 
 -- the pairs of the small groups, with what the large ones have
-module _ (columns ends rests : List ℕ) (most i j : ℕ) (s : Sheet columns ends rests most i j) where
+module _ (columns ends rests : List ℕ) (most i j : ℕ) (s : Judgeable columns ends rests most i j) where
   pub sheet_pairs : (v : ℕ) → v ≡ whole_gain ends (tally_at columns i j) 0 0 → Pairs columns rests i j (length ends) v
   sheet_pairs v e =
       record {

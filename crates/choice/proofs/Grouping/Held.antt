@@ -4,7 +4,7 @@ use native.Mathlib.Omega.{arith}
 use mathlib.Core.Path.{◌≡◌, refl, sym, ap, subst, ◌∙◌}
 use mathlib.Core.List.{List, [], ◌∷◌, flatten, append-nil}
 use lib.ListN.{length, get_or, take, drop}
-use lib.Seq.{take-take, get_or-take, length-take-le}
+use lib.Seq.{take-take, length-take-le}
 use Rattle.lists.proofs.Entries.Walk.{lent, walk_fits}
 use Rattle.vectors.specs.Bounds.{max_vectors}
 use Rattle.lists.specs.Members.{All}
@@ -12,14 +12,13 @@ use Rattle.choice.specs.Inner.Split.{part, refined, numbers, whole, members}
 use Rattle.choice.proofs.Choice.Groups.{part_all, pushed_few, pushed_many, members_many, refined_all, refined_members}
 use Rattle.choice.proofs.Choice.Grouped.{numbers_length, numbers_all}
 use Rattle.choice.specs.declared.groups.Groups.{Groups}
-use Rattle.choice.specs.declared.groups.Extent.{Extent}
-use Rattle.choice.specs.Inner.Groups.{cut, total, sizes_of, order_of, Cuts, Shape, GroupsAre, Holds, Room, Adds}
+use Rattle.choice.specs.Inner.Groups.{cut, total, sizes_of, order_of, Cuts, Shape, GroupsAre, Holds, Room, Adds, Sized}
 use Rattle.choice.proofs.Grouping.Split.{Splitting, here, splitting_low, splitting_room, splitting_room_2, splitting_more}
 use Rattle.choice.proofs.Grouping.Cut.{cut_flatten, cut_members, cut_many, cut_all, cuts_groups}
 
 -- ---- the groups of the result
 
-pub holds_are : (k : ℕ) (gs : List (List ℕ)) (g : Groups) → Holds gs g.order g.sizes (record { members = g.members; count = g.count })
+pub holds_are : (k : ℕ) (gs : List (List ℕ)) (g : Groups) → Holds gs g
     → All (λ l. 2 ≤ length l) gs → All (All (λ i. i < k)) gs → members gs ≤ k → k < length g.order → k < 2 * length g.sizes → GroupsAre k gs g
 holds_are k gs g s many low few o z =
     record {
@@ -32,7 +31,7 @@ holds_are k gs g s many low few o z =
     }
 
 pub refined_are : (b : ℕ → ℕ) (k : ℕ) (sizes order : List ℕ) (g : Groups) → Cuts k sizes order
-    → Holds (refined b (cut sizes order)) g.order g.sizes (record { members = g.members; count = g.count }) → k < length g.order → k < 2 * length g.sizes
+    → Holds (refined b (cut sizes order)) g → k < length g.order → k < 2 * length g.sizes
     → GroupsAre k (refined b (cut sizes order)) g
 refined_are b k sizes order g c s o z =
     let gs = cut sizes order in
@@ -72,57 +71,36 @@ lent_take (suc from) n zero l h = absurd (omega arith)
 lent_take (suc from) n (suc m) [] h = refl
 lent_take (suc from) n (suc m) (x ∷ l) h = lent_take from n m l (omega arith)
 
--- the groups are half as many as their members at most
-sizes_few : (ss : List ℕ) → All (λ s. 2 ≤ s) ss → 2 * length ss ≤ total ss
-unfolding total
-sizes_few [] a = omega arith
-sizes_few (s ∷ ss) a = omega (arith, a.0, sizes_few ss a.1)
-
-pub groups_few : {k : ℕ} {g : Groups} → Shape k g → 2 * g.count ≤ k
-groups_few {k} {g} shape =
-    omega (arith, length-take-le g.count g.sizes shape.places, sizes_few (sizes_of g) shape.cuts.many, shape.cuts.sum, shape.cuts.few)
-
-module _ (b : ℕ → ℕ) {k : ℕ} {g : Groups} (shape : Shape k g) {out out_sizes : List ℕ} {e : Extent} {from i : ℕ}
-    (s : Splitting b (sizes_of g) (order_of g) out out_sizes e from i) (h : i < g.count) where
+module _ (b : ℕ → ℕ) {k : ℕ} {g : Groups} (shape : Shape k g) {out : Groups} {from i : ℕ}
+    (s : Splitting b (sizes_of g) (order_of g) out from i) (h : i < length (sizes_of g)) where
   -- the size of the group, and its members
   abbrev size : ℕ
-  size = get_or g.sizes i 0
+  size = get_or (sizes_of g) i 0
 
   abbrev group : List ℕ
   group = lent from (from + size) g.order
 
-  below : i < length (sizes_of g)
-  below = omega (arith, length-take-le g.count g.sizes shape.places)
-
-  size_is : get_or (sizes_of g) i 0 ≡ size
-  size_is = get_or-take g.count g.sizes i 0 h
-
   pub split_fits : from + size ≤ g.members
-  split_fits = omega (arith, walk_fits s.walk 0 below, size_is, length-take-le g.members g.order shape.room)
+  split_fits = omega (arith, walk_fits s.walk 0 h, length-take-le g.members g.order shape.room)
 
-  group_is : here b (sizes_of g) (order_of g) s 0 below ≡ group
-  group_is =
-      let n : from + size - from ≡ size = omega arith in
-      ap (λ (z : ℕ). lent from (from + z) (order_of g)) size_is ∙ rw n (lent_take from size g.members g.order split_fits)
+  group_is : here b (sizes_of g) (order_of g) s 0 h ≡ group
+  group_is = let n : from + size - from ≡ size = omega arith in rw n (lent_take from size g.members g.order split_fits)
 
   pub split_low : All (λ x. x < k) group
-  split_low = subst (All (λ x. x < k)) group_is (splitting_low b (sizes_of g) (order_of g) s 0 below k shape.cuts.low)
+  split_low = subst (All (λ x. x < k)) group_is (splitting_low b (sizes_of g) (order_of g) s 0 h k shape.cuts.low)
 
   module _ (few : length (order_of g) ≤ max_vectors) where
-    pub split_room : Room (part b 0 group) out out_sizes e
-    split_room = subst (λ (l : List ℕ). Room (part b 0 l) out out_sizes e) group_is (splitting_room b (sizes_of g) (order_of g) s 0 below few)
+    pub split_room : Room (part b 0 group) out
+    split_room = subst (λ (l : List ℕ). Room (part b 0 l) out) group_is (splitting_room b (sizes_of g) (order_of g) s 0 h few)
 
-    module _ (out₁ out_sizes₁ : List ℕ) (e₁ : Extent) (a : Adds (part b 0 group) out out_sizes e out₁ out_sizes₁ e₁) (o : length out₁ ≡ length out)
-        (z : length out_sizes₁ ≡ length out_sizes) where
-      first : Adds (part b 0 (here b (sizes_of g) (order_of g) s 0 below)) out out_sizes e out₁ out_sizes₁ e₁
-      first = subst (λ (l : List ℕ). Adds (part b 0 l) out out_sizes e out₁ out_sizes₁ e₁) (sym group_is) a
+    module _ (out₁ : Groups) (a : Adds (part b 0 group) out out₁) (z : Sized out out₁) where
+      first : Adds (part b 0 (here b (sizes_of g) (order_of g) s 0 h)) out out₁
+      first = subst (λ (l : List ℕ). Adds (part b 0 l) out out₁) (sym group_is) a
 
-      pub split_room_2 : Room (part b 1 group) out₁ out_sizes₁ e₁
-      split_room_2 = subst (λ (l : List ℕ). Room (part b 1 l) out₁ out_sizes₁ e₁) group_is (splitting_room_2 b (sizes_of g) (order_of g) s 0 below out₁ out_sizes₁ e₁ first o z few)
+      pub split_room_2 : Room (part b 1 group) out₁
+      split_room_2 = subst (λ (l : List ℕ). Room (part b 1 l) out₁) group_is (splitting_room_2 b (sizes_of g) (order_of g) s 0 h out₁ first z few)
 
-      pub split_more : (out₂ out_sizes₂ : List ℕ) (e₂ : Extent) → Adds (part b 1 group) out₁ out_sizes₁ e₁ out₂ out_sizes₂ e₂ → length out₂ ≡ length out₁
-          → length out_sizes₂ ≡ length out_sizes₁ → Splitting b (sizes_of g) (order_of g) out₂ out_sizes₂ e₂ (from + size) (i + 1)
-      split_more out₂ out_sizes₂ e₂ a₂ o₂ z₂ =
-          subst (λ (n : ℕ). Splitting b (sizes_of g) (order_of g) out₂ out_sizes₂ e₂ (from + n) (i + 1)) size_is
-          (splitting_more b (sizes_of g) (order_of g) s 0 below out₁ out_sizes₁ e₁ first o z out₂ out_sizes₂ e₂
-          (subst (λ (l : List ℕ). Adds (part b 1 l) out₁ out_sizes₁ e₁ out₂ out_sizes₂ e₂) (sym group_is) a₂) o₂ z₂)
+      pub split_more : (out₂ : Groups) → Adds (part b 1 group) out₁ out₂ → Sized out₁ out₂ → Splitting b (sizes_of g) (order_of g) out₂ (from + size) (i + 1)
+      split_more out₂ a₂ z₂ =
+          splitting_more b (sizes_of g) (order_of g) s 0 h out₁ first z out₂
+          (subst (λ (l : List ℕ). Adds (part b 1 l) out₁ out₂) (sym group_is) a₂) z₂

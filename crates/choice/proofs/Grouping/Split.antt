@@ -16,9 +16,9 @@ use Rattle.lists.proofs.Entries.Joined.{all_append}
 use Rattle.lists.proofs.Entries.Alls.{all_take, all_drop}
 use Rattle.choice.specs.Inner.Split.{part, pushed, refined, members}
 use Rattle.choice.proofs.Choice.Groups.{part_yes, part_no, parts_length, pushed_append, pushed_few, pushed_many, pushed_all, pushed_members, members_append, members_many}
-use Rattle.choice.specs.declared.groups.Extent.{Extent}
+use Rattle.choice.specs.declared.groups.Groups.{Groups}
 use Rattle.vectors.specs.Bounds.{max_vectors}
-use Rattle.choice.specs.Inner.Groups.{cut, total, Holds, Room, Adds}
+use Rattle.choice.specs.Inner.Groups.{cut, total, Holds, Room, Adds, Sized}
 use Rattle.lists.proofs.Entries.Walk.{Walk, rest, lent, walk_length, walk_start, walk_end, walk_next, walk_cut}
 
 -- the list stands from place at on, up to r
@@ -96,53 +96,55 @@ unfolding flatten
 flatten_snoc [] p = append-nil p
 flatten_snoc (g ∷ gs) p = ap (λ (l : List ℕ). g ++ l) (flatten_snoc gs p) ∙ sym (append_assoc g (flatten gs) p)
 
-module _ (p order sizes after : List ℕ) (e : Extent) (to : ℕ) (l : Listed p order e.members after to) (room : Room p order sizes e) where
-  pub adds_none : to - e.members < 2 → Adds p order sizes e after sizes e
+-- g' is g with a list written
+module _ (p : List ℕ) (g g' : Groups) (to : ℕ) (m : g'.members ≡ g.members) (c : g'.count ≡ g.count) (z : g'.sizes ≡ g.sizes)
+    (l : Listed p g.order g.members g'.order to) (room : Room p g) where
+  pub adds_none : to - g.members < 2 → Adds p g g'
   adds_none h gs s =
       let n : pushed p [] ≡ [] = pushed_few p (omega (arith, l.place)) in
-      let m : take e.members after ≡ take e.members order =
-      sym (take-take e.members to after (omega (arith, l.place)))
-      ∙ ap (take e.members) l.is
-      ∙ take_at (take e.members order) p e.members (length-take-le e.members order (omega (arith, room.order_room))) in
-      rw (n, append-nil gs) (record { total_is = s.total_is; count_is = s.count_is; order_is = m ∙ s.order_is; sizes_are = s.sizes_are })
+      let q : take g.members g'.order ≡ take g.members g.order =
+      sym (take-take g.members to g'.order (omega (arith, l.place)))
+      ∙ ap (take g.members) l.is
+      ∙ take_at (take g.members g.order) p g.members (length-take-le g.members g.order (omega (arith, room.order_room))) in
+      rw (n, append-nil gs) (record { total_is = m ∙ s.total_is; count_is = c ∙ s.count_is; order_is = rw (m, q) s.order_is; sizes_are = rw (c, z) s.sizes_are })
 
-  pub adds_one : 2 ≤ to - e.members → Adds p order sizes e after (set sizes e.count (to - e.members)) (record { members = to; count = e.count + 1 })
+  pub adds_one : 2 ≤ to - g.members → Adds p g (record { order = g'.order; sizes = set g'.sizes g'.count (to - g.members); members = to; count = g'.count + 1 })
   unfolding members
   adds_one h gs s =
-      let n : length p ≡ to - e.members = omega (arith, l.place) in
-      let m : pushed p [] ≡ p ∷ [] = pushed_many p (omega arith) in
-      rw m
+      let n : length p ≡ to - g.members = omega (arith, l.place) in
+      let q : pushed p [] ≡ p ∷ [] = pushed_many p (omega arith) in
+      rw (q, c, z)
       (record {
         total_is = omega (arith, l.place, s.total_is, members_append gs (p ∷ []));
         count_is = omega (arith, s.count_is, length-append gs (p ∷ []));
         order_is = l.is ∙ ap (λ (u : List ℕ). u ++ p) s.order_is ∙ sym (flatten_snoc gs p);
         sizes_are =
-            rw (add-one e.count, take-suc-set sizes e.count (to - e.members) room.sizes_room, s.sizes_are, ← n)
+            rw (add-one g.count, take-suc-set g.sizes g.count (to - g.members) room.sizes_room, s.sizes_are, ← n)
             (sym (map-append length gs (p ∷ [])));
       })
 
-room_of : {gs : List (List ℕ)} {order sizes : List ℕ} {e : Extent} (p : List ℕ) → Holds gs order sizes e → All (λ g. 2 ≤ length g) gs → length p ≤ max_vectors
-    → members gs + length p < length order → members gs < 2 * length sizes → Room p order sizes e
+room_of : {gs : List (List ℕ)} {g : Groups} (p : List ℕ) → Holds gs g → All (λ g. 2 ≤ length g) gs → length p ≤ max_vectors
+    → members gs + length p < length g.order → members gs < 2 * length g.sizes → Room p g
 room_of {gs} p s a few r q =
     record { few = few; order_room = omega (arith, s.total_is); sizes_room = omega (arith, s.count_is, members_many gs a) }
 
 -- ---- all groups split, one after the other
 
 module _ (b : ℕ → ℕ) (sizes order : List ℕ) where
-  pub record Splitting (out out_sizes : List ℕ) (e : Extent) (from g : ℕ) : Type 0 where
+  pub record Splitting (out : Groups) (from g : ℕ) : Type 0 where
     pub walk : Walk sizes order from g
     pub done : List (List ℕ)
     pub many : All (λ g. 2 ≤ length g) done
     pub few : members done + total (drop g sizes) ≤ length order
-    pub holds : Holds done out out_sizes e
+    pub holds : Holds done out
     pub same : done ++ refined b (rest sizes order from g) ≡ refined b (cut sizes order)
-    pub out_room : length order < length out
-    pub sizes_room : length order < 2 * length out_sizes
+    pub out_room : length order < length out.order
+    pub sizes_room : length order < 2 * length out.sizes
 
-  pub splitting_none : (out out_sizes : List ℕ) → total sizes ≡ length order → length order < length out → length order < 2 * length out_sizes
-      → Splitting out out_sizes (record { members = 0; count = 0 }) 0 0
+  pub splitting_none : (o z : List ℕ) → total sizes ≡ length order → length order < length o → length order < 2 * length z
+      → Splitting (record { order = o; sizes = z; members = 0; count = 0 }) 0 0
   unfolding members flatten
-  splitting_none out out_sizes h r q =
+  splitting_none o z h r q =
       record {
         walk = walk_start sizes order h;
         done = [];
@@ -154,15 +156,14 @@ module _ (b : ℕ → ℕ) (sizes order : List ℕ) where
         sizes_room = q;
       }
 
-  pub splitting_end : {out out_sizes : List ℕ} {e : Extent} {from g : ℕ} → length sizes ≤ g → Splitting out out_sizes e from g
-      → Holds (refined b (cut sizes order)) out out_sizes e
+  pub splitting_end : {out : Groups} {from g : ℕ} → length sizes ≤ g → Splitting out from g → Holds (refined b (cut sizes order)) out
   unfolding refined
-  splitting_end {out} {out_sizes} {e} {from} {g} h s =
+  splitting_end {out} {from} {g} h s =
       let d : s.done ≡ refined b (cut sizes order) =
       sym (append-nil s.done) ∙ ap (λ (r : List (List ℕ)). s.done ++ refined b r) (sym (walk_end sizes order from g h)) ∙ s.same in
       rw d at s.holds
 
-  module _ {out out_sizes : List ℕ} {e : Extent} {from g : ℕ} (s : Splitting out out_sizes e from g) (d : ℕ) (h : g < length sizes) where
+  module _ {out : Groups} {from g : ℕ} (s : Splitting out from g) (d : ℕ) (h : g < length sizes) where
     -- the members of the group
     abbrev pub here : List ℕ
     here = lent from (from + get_or sizes g d) order
@@ -174,15 +175,14 @@ module _ (b : ℕ → ℕ) (sizes order : List ℕ) where
     pub splitting_low : (k : ℕ) → All (λ i. i < k) order → All (λ i. i < k) here
     splitting_low k a = all_take (λ i. i < k) (from + get_or sizes g d - from) (drop from order) (all_drop (λ i. i < k) from order a)
 
-    pub splitting_room : length order ≤ max_vectors → Room (part b 0 here) out out_sizes e
+    pub splitting_room : length order ≤ max_vectors → Room (part b 0 here) out
     splitting_room m =
         let n = next_few in
         let p = parts_length b here in
         let l = walk_length s.walk d h in
         room_of (part b 0 here) s.holds s.many (omega arith) (omega (arith, s.out_room)) (omega (arith, s.sizes_room))
 
-    module _ (out₁ out_sizes₁ : List ℕ) (e₁ : Extent) (a : Adds (part b 0 here) out out_sizes e out₁ out_sizes₁ e₁) (o : length out₁ ≡ length out)
-        (z : length out_sizes₁ ≡ length out_sizes) where
+    module _ (out₁ : Groups) (a : Adds (part b 0 here) out out₁) (z : Sized out out₁) where
       mid : List (List ℕ)
       mid = s.done ++ pushed (part b 0 here) []
 
@@ -194,19 +194,18 @@ module _ (b : ℕ → ℕ) (sizes order : List ℕ) where
       unfolding mid members
       mid_members = omega (arith, members_append s.done (pushed (part b 0 here) []), pushed_members (part b 0 here) [])
 
-      pub splitting_room_2 : length order ≤ max_vectors → Room (part b 1 here) out₁ out_sizes₁ e₁
+      pub splitting_room_2 : length order ≤ max_vectors → Room (part b 1 here) out₁
       unfolding mid
       splitting_room_2 m =
           let n = next_few in
           let p = parts_length b here in
           let l = walk_length s.walk d h in
           let q = mid_members in
-          room_of (part b 1 here) (a s.done s.holds) mid_many (omega arith) (omega (arith, s.out_room)) (omega (arith, s.sizes_room))
+          room_of (part b 1 here) (a s.done s.holds) mid_many (omega arith) (omega (arith, s.out_room, z.order)) (omega (arith, s.sizes_room, z.sizes))
 
-      pub splitting_more : (out₂ out_sizes₂ : List ℕ) (e₂ : Extent) → Adds (part b 1 here) out₁ out_sizes₁ e₁ out₂ out_sizes₂ e₂ → length out₂ ≡ length out₁ → length out_sizes₂ ≡ length out_sizes₁
-          → Splitting out₂ out_sizes₂ e₂ (from + get_or sizes g d) (g + 1)
+      pub splitting_more : (out₂ : Groups) → Adds (part b 1 here) out₁ out₂ → Sized out₁ out₂ → Splitting out₂ (from + get_or sizes g d) (g + 1)
       unfolding mid members refined
-      splitting_more out₂ out_sizes₂ e₂ a₂ o₂ z₂ =
+      splitting_more out₂ a₂ z₂ =
           let r = rest sizes order (from + get_or sizes g d) (g + 1) in
           let p₀ = pushed (part b 0 here) [] in
           let p₁ = pushed (part b 1 here) [] in
@@ -223,6 +222,6 @@ module _ (b : ℕ → ℕ) (sizes order : List ℕ) where
                 ∙ ap (λ (l : List (List ℕ)). s.done ++ l) (sym (pushed_append (part b 0 here) (pushed (part b 1 here) (refined b r))))
                 ∙ ap (λ (l : List (List ℕ)). s.done ++ refined b l) (sym (walk_cut s.walk d h))
                 ∙ s.same;
-            out_room = omega (arith, s.out_room);
-            sizes_room = omega (arith, s.sizes_room);
+            out_room = omega (arith, s.out_room, z.order, z₂.order);
+            sizes_room = omega (arith, s.sizes_room, z.sizes, z₂.sizes);
           }

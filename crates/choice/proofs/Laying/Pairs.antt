@@ -48,16 +48,17 @@ module _ (group before : List ℕ) (at : ℕ) where
     others = take_all (length group - (i + 1)) (drop (i + 1) group) (omega (arith, length-drop (i + 1) group))
 
     module _ (r : at + length (pairs_of group) ≤ length before) where
-      pub pairing_room : w + (length group - (i + 1)) ≤ length out
-      pairing_room = omega (arith, place, p.size)
+      room : w + (length group - (i + 1)) ≤ length out
+      room = omega (arith, place, p.size)
 
       pub pairing_part : w + length (lent (i + 1) (length group) group) ≤ length out
-      pairing_part = rw (others, length-drop) pairing_room
+      pairing_part = rw (others, length-drop) room
 
     pub pairing_more : (out' : List ℕ) → out' ≡ sets out w (map (bit_xor (get_or group i d)) (lent (i + 1) (length group) group))
-        → Pairing group before at out' (w + (length group - (i + 1))) (i + 1)
+        → Pairing group before at out' (w + length (lent (i + 1) (length group) group)) (i + 1)
     pairing_more out' e =
         let q : out' ≡ sets out w pairs = e ∙ ap (λ (l : List ℕ). sets out w (map (bit_xor (get_or group i d)) l)) others in
+        rw (others, length-drop)
         record {
           within = omega arith;
           size = ap length q ∙ length-sets out w pairs ∙ p.size;

@@ -21,7 +21,7 @@ use Rattle.choice.specs.Inner.Layout.{max_blocks, blocks_of, ends_of, items_of, 
 use Rattle.choice.specs.Inner.Gain.{whole_gain, pair_gain, gains, Counts, most_of, small_most}
 use Rattle.vectors.specs.Bounds.{max_inputs}
 use Rattle.choice.specs.Inner.Best.{score_of, Searched}
-use Rattle.choice.specs.Inner.Judged.{max_gain, Drawn, tally_at, gain_at, Sheet, Sheets, left_by}
+use Rattle.choice.specs.Inner.Judged.{max_gain, Drawn, tally_at, gain_at, Judgeable, AllJudgeable, left_by}
 use Rattle.choice.specs.Inner.Search.{Beaten}
 use Rattle.choice.specs.Inner.Ties.{Ties}
 use Rattle.choice.specs.Inner.Laid.{Bounds, LaidOut}
@@ -122,7 +122,7 @@ module _ (sizes words columns rests : List ℕ) (n zeros : ℕ) (s : Searched si
         rw (pair_same t u (blocks - w) w (λ v l m. tally_is v (omega arith)), get_or-take blocks rests w 0 b)
         (le_trans (pairs_high (λ x. value_of x k) (value_linear k) gs zeros w b) (r.high (λ x. value_of x k) (value_linear k) w a b))
 
-    serves : Sheet columns ends (take blocks rests) (most_of sizes) (earlier k) (later k)
+    serves : Judgeable columns ends (take blocks rests) (most_of sizes) (earlier k) (later k)
     serves =
         record {
           size = d.size;
@@ -139,7 +139,7 @@ module _ (sizes words columns rests : List ℕ) (n zeros : ℕ) (s : Searched si
           rests_low = rw rests_is (λ w a b. rw (get_or-take blocks rests w 0 b) (omega (arith, r.low w a b, halves_are)));
         }
 
-  pub sheets : Sheets columns (ends_of (cut sizes words)) (take (blocks_in (cut sizes words)) rests) (most_of sizes) n
+  pub sheets : AllJudgeable columns (ends_of (cut sizes words)) (take (blocks_in (cut sizes words)) rests) (most_of sizes) n
   sheets zero j h l = serves (kind_of zero j) (kind_sound n zero j h l)
   sheets (suc i) j h l = serves (kind_of (suc i) j) (kind_sound n (suc i) j h l)
 
@@ -182,10 +182,10 @@ module _ (sizes words items ends rests columns : List ℕ) (n : ℕ) (r : Laid) 
   fits : blocks_in (cut sizes words) ≤ max_blocks
   fits = omega (arith, o.few)
 
-  pub made_sheets : Sheets columns (take r.whole ends) (take ((r.items + 63) / 64) rests) (most_of sizes) n
+  pub made_sheets : AllJudgeable columns (take r.whole ends) (take ((r.items + 63) / 64) rests) (most_of sizes) n
   made_sheets =
-      subst (λ (l : List ℕ). Sheets columns l (take ((r.items + 63) / 64) rests) (most_of sizes) n) (sym o.ends_are)
-      (subst (λ (m : ℕ). Sheets columns (ends_of (cut sizes words)) (take ((m + 63) / 64) rests) (most_of sizes) n) (sym o.count_is)
+      subst (λ (l : List ℕ). AllJudgeable columns l (take ((r.items + 63) / 64) rests) (most_of sizes) n) (sym o.ends_are)
+      (subst (λ (m : ℕ). AllJudgeable columns (ends_of (cut sizes words)) (take ((m + 63) / 64) rests) (most_of sizes) n) (sym o.count_is)
       (sheets sizes words columns rests n zeros s fits o.bounds drawn))
 
   blocks_are : length (take ((r.items + 63) / 64) rests) ≡ blocks_in (cut sizes words)

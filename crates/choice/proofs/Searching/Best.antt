@@ -49,7 +49,7 @@ module _ (g : ℕ → ℕ → ℕ) where
 
     -- a candidate with a tied input tells no more apart
     pub above_tied : (tied : ℕ) → Beaten tied g n → (b : Best) (i j : ℕ) → i < j → j ≤ n → Above g n b (rank i j) → (input tied i ≡ 1) ⊎ (input tied j ≡ 1) → g i j ≤ b.gain
-    above_tied tied beaten b i j h l a t = let (x, y, p, q, r, m) = beaten i j h l t in le_trans m (a x y p q r)
+    above_tied tied beaten b i j h l a t = beaten i j h l t b.gain a
 
     -- ---- a line
 

@@ -1,10 +1,10 @@
 -- Candidates with a tied input tell no more apart than earlier ones. Assumes nothing.
 use Prim.Native.Nat.{ℕ, zero, suc, ◌+◌, ◌-◌, ◌*◌, ◌/◌, ◌%◌, ◌^◌, ◌≤◌, ◌<◌}
-use native.Mathlib.Nat.{mul_comm, mul-zero, zero-mul, div-one, eq-or-lt_of_le}
+use native.Mathlib.Nat.{mul_comm, mul-zero, zero-mul, div-one, le_trans, eq-or-lt_of_le}
 use native.Mathlib.Omega.{arith}
 use mathlib.Core.Path.{◌≡◌, refl, sym, ap, ap₂, ◌∙◌, fun_ext}
 use mathlib.Core.List.{List, [], ◌∷◌}
-use mathlib.Core.Logic.{inl, inr, ⊎_elim}
+use mathlib.Core.Logic.{◌⊎◌, inl, inr, ⊎_elim}
 use lib.ListN.{length}
 use Rattle.lists.proofs.Tests.{le_or_lt}
 use Rattle.lists.specs.Members.{All}
@@ -107,12 +107,13 @@ module _ (gs : List (List ℕ)) where
       ∙ ap₂ (gain_of gs) (kind_earlier i j) (kind_later i j)
 
   -- of the inputs after x_1, which is tried in any case
-  pub ties_beaten : (n tied : ℕ) → n ≤ max_inputs → Ties tied (λ x. x) gs → Beaten (tied / 2 * 2) (gain_of gs) n
-  ties_beaten n tied fits t i j h l (inl m) =
+  earlier_twin : (n tied : ℕ) → n ≤ max_inputs → Ties tied (λ x. x) gs → (i j : ℕ) → i < j → j ≤ n → (input (tied / 2 * 2) i ≡ 1) ⊎ (input (tied / 2 * 2) j ≡ 1)
+      → (x : ℕ) × (y : ℕ) × (x < y) × (y ≤ n) × (rank x y < rank i j) × (gain_of gs i j ≤ gain_of gs x y)
+  earlier_twin n tied fits t i j h l (inl m) =
       let (a, b) = after_first tied i m in
       let (x, p, g) = t i b in
       (x, j, omega arith, l, omega arith, omega (arith, gain_turned i j, gains_tied x i j gs g, gain_turned j x))
-  ties_beaten n tied fits t i j h l (inr m) =
+  earlier_twin n tied fits t i j h l (inr m) =
       let (a, b) = after_first tied j m in
       let (x, p, g) = t j b in
       let e = gains_tied x j i gs g in
@@ -126,8 +127,12 @@ module _ (gs : List (List ℕ)) where
           let e : gain_of gs i j ≡ 0 = rw (sym z) (gains_none x j gs g) in
           (0, 1, omega arith, omega arith, omega arith, omega arith)
 
+  pub ties_beaten : (n tied : ℕ) → n ≤ max_inputs → Ties tied (λ x. x) gs → Beaten (tied / 2 * 2) (gain_of gs) n
+  ties_beaten n tied fits t i j h l q most below =
+      let (x, y, a, b, r, m) = earlier_twin n tied fits t i j h l q in
+      le_trans m (below x y a b r)
+
 -- by a function that says the same of every candidate
 pub beaten_same : (tied : ℕ) (f g : ℕ → ℕ → ℕ) (n : ℕ) → ((i j : ℕ) → i < j → j ≤ n → f i j ≡ g i j) → Beaten tied f n → Beaten tied g n
-beaten_same tied f g n same b i j h l t =
-    let (x, y, p, q, r, m) = b i j h l t in
-    (x, y, p, q, r, omega (arith, same x y p q, same i j h l))
+beaten_same tied f g n same b i j h l t most below =
+    rw (same i j h l) at (b i j h l t most (λ x y p q r. rw (same x y p q) (below x y p q r)))

@@ -1,5 +1,8 @@
 -- How many pairs of a group's members a candidate tells apart, from the blocks' tallies.
 use Rattle.std.specs.Prelude.{ℕ, zero, suc, ◌+◌, ◌-◌, ◌*◌, ◌≤◌, ◌/◌, ◌≡◌, cond, List, [], ◌∷◌, eqb, leb, length}
+use mathlib.Core.HLevel.{×_prop, →_prop, Unit-prop}
+use Rattle.std.proofs.Math.Bridge.{le_prop}
+use Rattle.std.proofs.Props.{props}
 use Rattle.choice.specs.Inner.Split.{tally}
 use Rattle.choice.specs.Inner.Layout.{paired_most}
 
@@ -22,6 +25,13 @@ whole_gain (e ∷ es) t w a = cond (eqb e 0) (whole_gain es t (suc w) (a + t w))
 abbrev pub Counts : List ℕ → (ℕ → ℕ) → ℕ → ℕ → Type 0
 Counts [] t w a = Unit {0}
 Counts (e ∷ es) t w a = (e ≡ 0 → Counts es t (suc w) (a + t w)) × ((e ≡ 0 → ⊥) → (a + t w ≤ e) × Counts es t (suc w) 0)
+
+-- it has one proof at most
+pub Counts-prop : (ends : List ℕ) (t : ℕ → ℕ) (w a : ℕ) → IsProp (Counts ends t w a)
+Counts-prop [] t w a = Unit-prop
+Counts-prop (e ∷ es) t w a = ×_prop (→_prop (Counts-prop es t (suc w) (a + t w))) (→_prop (×_prop le_prop (Counts-prop es t (suc w) 0)))
+
+pub ruleset judged_props = (props, Counts-prop)
 
 -- small groups: a pair with value 1 is one pair told apart; d blocks from w on
 unfoldable pub pair_gain : ℕ → (ℕ → ℕ) → ℕ → ℕ

@@ -5,7 +5,6 @@ unfoldable pub use Rattle.lists.specs.Cut.{cut, total}
 use Rattle.lists.specs.Members.{All}
 use Rattle.choice.specs.Inner.Split.{pushed, members}
 use Rattle.choice.specs.declared.groups.Groups.{Groups}
-use Rattle.choice.specs.declared.groups.Extent.{Extent}
 use Rattle.vectors.specs.Bounds.{max_vectors}
 use Rattle.vectors.specs.Masks.{value_by}
 
@@ -45,18 +44,23 @@ pub record GroupsAre (k : ℕ) (gs : List (List ℕ)) (g : Groups) : Type 0 wher
   pub are : groups_of g ≡ gs
 
 -- what is written are those groups
-pub record Holds (gs : List (List ℕ)) (order sizes : List ℕ) (e : Extent) : Type 0 where
-  pub total_is : e.members ≡ members gs
-  pub count_is : e.count ≡ length gs
-  pub order_is : take e.members order ≡ flatten gs
-  pub sizes_are : take e.count sizes ≡ map length gs
+pub record Holds (gs : List (List ℕ)) (g : Groups) : Type 0 where
+  pub total_is : g.members ≡ members gs
+  pub count_is : g.count ≡ length gs
+  pub order_is : take g.members g.order ≡ flatten gs
+  pub sizes_are : take g.count g.sizes ≡ map length gs
 
 -- room for a group more, and a place after it, where a member that does not count may be written
-pub record Room (g : List ℕ) (order sizes : List ℕ) (e : Extent) : Type 0 where
-  pub few : length g ≤ max_vectors
-  pub order_room : e.members + length g < length order
-  pub sizes_room : e.count < length sizes
+pub record Room (p : List ℕ) (g : Groups) : Type 0 where
+  pub few : length p ≤ max_vectors
+  pub order_room : g.members + length p < length g.order
+  pub sizes_room : g.count < length g.sizes
 
 -- whatever groups were held, the group is held after them, unless it has fewer than two members
-abbrev pub Adds : List ℕ → List ℕ → List ℕ → Extent → List ℕ → List ℕ → Extent → Type 0
-Adds g order sizes e order' sizes' e' = (gs : List (List ℕ)) → Holds gs order sizes e → Holds (gs ++ pushed g []) order' sizes' e'
+abbrev pub Adds : List ℕ → Groups → Groups → Type 0
+Adds p g g' = (gs : List (List ℕ)) → Holds gs g → Holds (gs ++ pushed p []) g'
+
+-- the arrays are as long as they were
+pub record Sized (g g' : Groups) : Type 0 where
+  pub order : length g'.order ≡ length g.order
+  pub sizes : length g'.sizes ≡ length g.sizes

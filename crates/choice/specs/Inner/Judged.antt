@@ -1,9 +1,8 @@
--- What inner functions pass to each other: the sheet, and a candidate judged by it.
-use Rattle.std.specs.Prelude.{ℕ, zero, suc, ◌+◌, ◌-◌, ◌*◌, ◌^◌, ◌≤◌, ◌<◌, ◌≡◌, List, true, false, length, get_or}
+-- A candidate judged by a sheet: the columns, ends and rests of the blocks, and what all groups have at most.
+use Rattle.std.specs.Prelude.{ℕ, zero, suc, ◌+◌, ◌-◌, ◌*◌, ◌^◌, ◌≤◌, ◌<◌, ◌≡◌, List, length, get_or}
 use Rattle.std.specs.Int.Bits.{bit_xor}
 use Rattle.std.specs.Int.Count.{ones}
 use Rattle.vectors.specs.declared.Kind.{Kind}
-use Rattle.choice.specs.declared.judge.Large.{Large}
 use Rattle.choice.specs.Inner.Layout.{max_blocks, block, input_column}
 use Rattle.choice.specs.Inner.Gain.{whole_gain, most_of, pair_gain, Counts}
 use Rattle.vectors.specs.Bounds.{max_inputs}
@@ -54,7 +53,7 @@ pub record Pairs (columns rests : List ℕ) (i j from start : ℕ) : Type 0 wher
   pub sum_low : start + pair_gain (length rests - from) (tally_at columns i j) from ≤ max_gain
 
 -- what judging inputs i and j needs
-pub record Sheet (columns ends rests : List ℕ) (most i j : ℕ) : Type 0 where
+pub record Judgeable (columns ends rests : List ℕ) (most i j : ℕ) : Type 0 where
   pub size : length columns ≡ columns_size
   pub whole : length ends ≤ length rests
   pub fit : length rests ≤ max_blocks
@@ -69,17 +68,12 @@ pub record Sheet (columns ends rests : List ℕ) (most i j : ℕ) : Type 0 where
   pub rests_low : (w : ℕ) → length ends ≤ w → w < length rests → get_or rests w 0 ≤ most - most_of ends
 
 -- every candidate of n inputs can be judged
-abbrev pub Sheets : List ℕ → List ℕ → List ℕ → ℕ → ℕ → Type 0
-Sheets columns ends rests most n = (i j : ℕ) → i < j → j ≤ n → Sheet columns ends rests most i j
+abbrev pub AllJudgeable : List ℕ → List ℕ → List ℕ → ℕ → ℕ → Type 0
+AllJudgeable columns ends rests most n = (i j : ℕ) → i < j → j ≤ n → Judgeable columns ends rests most i j
 
 -- the less a candidate leaves, the more it tells apart
 abbrev pub left_by : List ℕ → List ℕ → ℕ → Kind → ℕ
 left_by columns ends blocks k = max_gain - gain_at columns ends blocks (earlier k) (later k)
-
--- what the large groups give, or that with the pairs of the small ones they do not come above beat
-pub record WholeIs (exact pairs beat : ℕ) (r : Large) : Type 0 where
-  pub is : r.hopeless ≡ false → r.gain ≡ exact
-  pub low : r.hopeless ≡ true → exact + pairs ≤ beat
 
 -- above beat a judgement is exact, and up to beat it says that no more is right
 pub record Judges (exact beat r : ℕ) : Type 0 where

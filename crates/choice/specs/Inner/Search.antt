@@ -35,9 +35,10 @@ rank i j = (max_inputs + 1) * i + j
 abbrev pub Above : (ℕ → ℕ → ℕ) → ℕ → Best → ℕ → Type 0
 Above g n b place = (i j : ℕ) → i < j → j ≤ n → rank i j < place → g i j ≤ b.gain
 
--- a candidate with a tied input has an earlier one that tells no less apart
+-- a candidate with a tied input tells no more apart than one before it, so no more than what none of these passes
 abbrev pub Beaten : ℕ → (ℕ → ℕ → ℕ) → ℕ → Type 0
-Beaten tied g n = (i j : ℕ) → i < j → j ≤ n → (input tied i ≡ 1) ⊎ (input tied j ≡ 1) → (x : ℕ) × (y : ℕ) × (x < y) × (y ≤ n) × (rank x y < rank i j) × (g i j ≤ g x y)
+Beaten tied g n = (i j : ℕ) → i < j → j ≤ n → (input tied i ≡ 1) ⊎ (input tied j ≡ 1)
+    → (most : ℕ) → ((x y : ℕ) → x < y → y ≤ n → rank x y < rank i j → g x y ≤ most) → g i j ≤ most
 
 -- the best after the line of input i
 pub record LineIs (g : ℕ → ℕ → ℕ) (n i : ℕ) (best r : Best) : Type 0 where

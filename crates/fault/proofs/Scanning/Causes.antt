@@ -9,12 +9,24 @@ use Rattle.lists.proofs.Tests.{and_true}
 use Rattle.input.specs.Fields.{separator}
 use Rattle.input.specs.Decimal.{max_number, digit}
 use Rattle.input.specs.Input.{max_text}
-use Rattle.fault.specs.Fault.{space, newline}
+use Rattle.fault.specs.Fault.{number_of, space}
+use Rattle.fault.specs.declared.Cause.{Cause}
+use Rattle.fault.specs.declared.Cause.TheVariants.{NoDigit, EndBefore, OtherByte, LargeNumber, FewNumbers, ManyVectors, LongText}
 use Rattle.fault.specs.declared.State.{State}
-use Rattle.fault.specs.Fault.{no_digit, end_before, other_byte, large_number, few_numbers, many_vectors, long_text, max_numbers, counted, grown, cause_at, cause_end, past}
+use Rattle.fault.specs.Fault.{no_digit, end_before, other_byte, large_number, few_numbers, many_vectors, long_text, max_numbers, counted, grown, cause_at, cause_end}
 
 apart : {t : Bool} → t ≡ true → t ≡ false → ⊥
 apart p q = true≢false (sym p ∙ q)
+
+-- no cause has the number 0
+pub some_number : (c : Cause) → number_of c ≡ 0 → ⊥
+some_number NoDigit e = omega arith
+some_number EndBefore e = omega arith
+some_number OtherByte e = omega arith
+some_number LargeNumber e = omega arith
+some_number FewNumbers e = omega arith
+some_number ManyVectors e = omega arith
+some_number LongText e = omega arith
 
 pub counted_by : (s : State) {t : Bool} → separator s.last ≡ t → counted s ≡ cond t (s.count + 1) s.count
 counted_by s e = rw e
@@ -97,24 +109,6 @@ module _ (s : State) (b : ℕ) where
             few = λ _. ltb-false max_numbers (counted s) ek;
             small = λ _. leb-true (grown s b) max_number el;
           }
-
-  -- ---- past a byte
-
-  pub past_newline : b ≡ newline → past s b ≡ record { at = s.at + 1; line = s.line + 1; column = 1; count = counted s; last = b; value = 0 }
-  unfolding past
-  past_newline e = rw e
-
-  module _ (n : b ≡ newline → ⊥) where
-    pub past_space : b ≡ space → past s b ≡ record { at = s.at + 1; line = s.line; column = s.column + 1; count = counted s; last = b; value = 0 }
-    unfolding past
-    past_space e = rw e
-
-    pub no_separator : (b ≡ space → ⊥) → separator b ≡ false
-    no_separator m = rw (ne_eqb b space m, ne_eqb b newline n)
-
-    pub past_digit : (b ≡ space → ⊥) → past s b ≡ record { at = s.at + 1; line = s.line; column = s.column + 1; count = counted s; last = b; value = grown s b }
-    unfolding past
-    past_digit m = rw (ne_eqb b newline n, ne_eqb b space m)
 
 -- ---- the end
 

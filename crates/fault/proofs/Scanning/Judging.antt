@@ -12,10 +12,10 @@ use Rattle.lists.proofs.Tests.{and_true, or_false}
 use Rattle.input.specs.Fields.{separator}
 use Rattle.input.specs.Decimal.{max_number, digit, value_from, value_of, good_field}
 use Rattle.input.specs.Input.{max_text}
-use Rattle.input.proofs.Decimals.Digits.{value_grows}
+use Rattle.input.proofs.Decimals.{value_grows}
 use Rattle.fault.specs.Fault.{space, newline}
 use Rattle.fault.specs.declared.State.{State}
-use Rattle.fault.specs.declared.Fault.{Fault}
+use Rattle.fault.specs.Fault.{Fault}
 use Rattle.fault.specs.Fault.{end_before, few_numbers, max_numbers, counted, grown, cause_at, cause_end, past, fault_from}
 use Rattle.fault.proofs.Scanning.Causes.{counted_by, clean, cause_separator, cause_none, end_space, end_few, end_none}
 use Rattle.fault.proofs.Scanning.Reading.{fault_on, fault_here}

@@ -4,41 +4,32 @@ use mathlib.Core.Path.{◌≡◌, sym, ap, ap₂, ◌∙◌}
 use lib.ListN.{get_or}
 use Rattle.fault.specs.declared.State.{State}
 use Rattle.fault.specs.Fault.{fault_at}
+use Rattle.fault.proofs.Scanning.Causes.{some_number}
 use Rattle.fault.proofs.Scanning.Reading.{reading_none, reading_more, reading_fault, reading_end}
 use Rattle.fault.proofs.find.Goals as goal
-use Rattle.fault.proofs.find.Lts.View
-use Rattle.fault.proofs.find.Goals.{After-cause_at-cause, At-loop-i}
 
-pub loop-i-init : goal.loop-i-init
-loop-i-init c = reading_none _
+pub loop-b-init : goal.loop-b-init
+loop-b-init c = reading_none _
 
-pub cause_at-cause-requires : goal.cause_at-cause-requires
-cause_at-cause-requires c = c.loop-i.invariant.within.numbers
+pub cause_at-requires : goal.cause_at-requires
+cause_at-requires c = c.loop-b.invariant.within.numbers
 
--- the byte, and that it is one
-module _ (c : After-cause_at-cause) where
-  abbrev head : At-loop-i
-  head = View.up-At-loop-i _ _ _ _ _ c.before.before.before.before
-
-  abbrev byte : ℕ
-  byte = get_or head.args.text.now head.loop-i.i 0
-
-  is_byte : byte ≡ byte % 256
-  is_byte = omega (arith, c.shared_slice_known-in-loop-i-1.given head.loop-i.i)
-
-pub returns-then-cause-ne0 : goal.returns-then-cause-ne0
-returns-then-cause-ne0 c =
-    let s : State = (head (goal.at.returns-then-cause-ne0 c).After-cause_at-cause).loop-i.s in
-    ap₂ (λ (n b : ℕ). record { cause = n; line = s.line; column = s.column; byte = b }) c.cause_at-cause.ensures (is_byte (goal.at.returns-then-cause-ne0 c).After-cause_at-cause)
-    ∙ reading_fault (head (goal.at.returns-then-cause-ne0 c).After-cause_at-cause).loop-i.invariant 0 c.loop-i-test.true (λ z. c.if-cause-ne0.true (c.cause_at-cause.ensures ∙ z))
+pub returns-in-Some : goal.returns-in-Some
+returns-in-Some c =
+    let s : State = c.loop-b.s in
+    let b = get_or c.args.text.now c.loop-b.b-index 0 in
+    let byte : b ≡ b % 256 = omega (arith, c.type_inv.text c.loop-b.b-index) in
+    ap₂ (λ (n b : ℕ). record { cause = n; line = s.line; column = s.column; byte = b }) c.in-Some.ensures byte
+    ∙ reading_fault c.loop-b.invariant 0 c.loop-b-test.true (λ z. some_number c.in-Some.cause (c.in-Some.ensures ∙ z))
 
 pub past-s-requires : goal.past-s-requires
-past-s-requires c = ((head (goal.at.past-s-requires c).After-cause_at-cause).loop-i.invariant.within, sym c.cause_at-cause.ensures ∙ c.if-cause-ne0.false)
+past-s-requires c = (c.loop-b.invariant.within, sym c.in_default.ensures)
 
-pub loop-i-preserved : goal.loop-i-preserved
-loop-i-preserved c =
-    rw c.past-s.ensures (reading_more (head (goal.at.loop-i-preserved c).After-cause_at-cause).loop-i.invariant 0 c.loop-i-test.true (sym c.cause_at-cause.ensures ∙ c.if-cause-ne0.false))
+pub loop-b-preserved : goal.loop-b-preserved
+loop-b-preserved c = rw c.past-s.ensures (reading_more c.loop-b.invariant 0 c.loop-b-test.true (sym c.in_default.ensures))
 
-pub returns : goal.returns
-returns c =
-    ap (λ (n : ℕ). fault_at c.loop-i.s n 0) c.cause_end-cause.ensures ∙ reading_end c.loop-i.invariant c.loop-i-test.false
+pub returns-in-Some-cause_end : goal.returns-in-Some-cause_end
+returns-in-Some-cause_end c = ap (λ (n : ℕ). fault_at c.loop-b.s n 0) c.in-Some-cause_end.ensures ∙ reading_end c.loop-b.invariant c.loop-b-test.false
+
+pub returns-in-None : goal.returns-in-None
+returns-in-None c = ap (λ (n : ℕ). fault_at c.loop-b.s n 0) c.in-None.ensures ∙ reading_end c.loop-b.invariant c.loop-b-test.false

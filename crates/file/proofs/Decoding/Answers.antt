@@ -26,7 +26,7 @@ use Rattle.record.specs.Leads.{word_in, cell_in}
 use Rattle.record.proofs.Soundness.{Sound, sound_says}
 use Rattle.lookup.specs.Lookup.{compared, answer, lookup_of}
 use Rattle.lookup.proofs.Lookups as looking
-use Rattle.recover.specs.declared.Recovered.{Recovered}
+use Rattle.recover.specs.Recover.{Recovered}
 use Rattle.recover.specs.Recover.{recovered, not_recovered, first_cell, row_in, fixes, vector_at, from_cell, recover_of}
 use Rattle.recover.proofs.Recovery.{recover_outside, recover_from}
 use Rattle.file.specs.File.{rows_in, words_in, file_of}

@@ -14,7 +14,7 @@ use Rattle.record.specs.Record.{mark_built, record_of}
 use Rattle.record.specs.Tables.{Tables}
 use Rattle.record.specs.Holds.{Holds}
 use Rattle.record.proofs.Marks.{kinds_in_lem}
-use Rattle.build.specs.declared.Refusal.{Refusal}
+use Rattle.build.specs.Built.{Refusal}
 use Rattle.build.specs.Build.{rows_share, Outcome, placing_of, outcome, chosen_refusal, given_refusal, build_chosen, build_given, chosen_kinds}
 use Rattle.build.proofs.Holding.Ends.{outcome_accepted}
 use Rattle.build.proofs.Holding.Holds.{chosen_holds, given_holds}

@@ -18,7 +18,7 @@ use Rattle.vectors.specs.Variable.{row_of}
 use Rattle.vectors.proofs.Words.Laws.{word_lt}
 use Rattle.rows.specs.Care.{Care, in_row, weight_of}
 use Rattle.rows.specs.Place.{State}
-use Rattle.rows.specs.declared.End.TheVariants as ends
+use Rattle.rows.specs.End as ends
 use Rattle.rows.proofs.Demand3 as placing
 use Rattle.rows.proofs.Fits.Cells.{in_row_lem}
 use Rattle.rows.proofs.Fits.Filled.{blank_zero}
@@ -30,7 +30,7 @@ use Rattle.record.specs.Leads.{word_in, cell_in}
 use Rattle.record.proofs.Formed.{well_formed_facts, few_words}
 use Rattle.record.proofs.Soundness.{Sound, sound_says}
 use Rattle.record.proofs.Marks.{kinds_in_lem}
-use Rattle.build.specs.declared.Refusal.{Refusal}
+use Rattle.build.specs.Built.{Refusal}
 use Rattle.build.specs.Build.{cares_from, placing_of, Outcome, written, outcome}
 use Rattle.build.proofs.Holding.Built.{accepted_holds}
 use Rattle.build.proofs.Holding.Cares.{cares_entry}

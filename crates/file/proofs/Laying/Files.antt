@@ -1,10 +1,10 @@
 -- The parts of a file laid one after another, and its length. Assumes nothing.
-use mathlib.Core.Path.{◌≡◌, sym, ap, ◌∙◌}
+use mathlib.Core.Path.{◌≡◌, sym, ap, ap₂, ◌∙◌}
 use mathlib.Core.List.{List, ◌++◌}
 use Prim.Native.Nat.{ℕ, ◌-◌, ◌*◌, ◌≤◌}
 use native.Mathlib.Omega.{arith}
-use lib.ListN.{length, take, drop, length-append}
-use lib.Seq.{sets, take-length}
+use lib.ListN.{length, drop, length-append}
+use lib.Seq.{sets}
 use Rattle.vectors.specs.Bounds.{max_variables}
 use Rattle.record.specs.declared.Record.{Record}
 use Rattle.record.specs.Record.{kinds_in}
@@ -60,7 +60,7 @@ module _ (u : Record) (h g aux : List ℕ) (w : Whole u h g aux) where
       ∙ omega (arith, length-append (a ++ b) c, length-append a b, length_head u w.variables_few, length_h, length_g, length_aux)
 
   -- the four parts, each behind the one before
-  pub filled_is : (before b l₁ l₂ l₃ l₄ : List ℕ) (i j : ℕ) → size_of u ≤ length before → i ≡ g_first u → j ≡ aux_first u → b ≡ head_of u → l₁ ≡ take (length b) b ++ drop (length b) before
+  pub filled_is : (before b l₁ l₂ l₃ l₄ : List ℕ) (i j : ℕ) → size_of u ≤ length before → i ≡ g_first u → j ≡ aux_first u → b ≡ head_of u → l₁ ≡ b ++ drop block_size before
       → l₂ ≡ sets l₁ (block_size * h_first) (table_of h_kind short_word short_words h_first h)
       → l₃ ≡ sets l₂ (block_size * i) (table_of g_kind short_word short_words i g)
       → l₄ ≡ sets l₃ (block_size * j) (table_of aux_kind long_word long_words j aux)
@@ -75,8 +75,7 @@ module _ (u : Record) (h g aux : List ℕ) (w : Whole u h g aux) where
       let n₁ : length (a ++ p) ≡ block_size * g_first u = length-append a p ∙ omega (arith, length_h) in
       let n₂ : length (a ++ p ++ q) ≡ block_size * aux_first u = length-append (a ++ p) q ∙ omega (arith, length_g) in
       let s₁ : l₁ ≡ sets before 0 a =
-      e₁ ∙ ap (λ (x : List ℕ). take (length x) x ++ drop (length x) before) e ∙ ap (λ (x : List ℕ). x ++ drop (length a) before) (take-length a)
-      ∙ sym (front a before (omega arith)) in
+      e₁ ∙ ap₂ (λ (x : List ℕ) (i : ℕ). x ++ drop i before) e (sym n) ∙ sym (front a before (omega arith)) in
       let s₂ : l₂ ≡ sets before 0 (a ++ p) = e₂ ∙ ap (λ (x : List ℕ). sets x (block_size * h_first) p) s₁ ∙ behind a p before (block_size * h_first) n in
       let s₃ : l₃ ≡ sets before 0 (a ++ p ++ q) = e₃ ∙ ap (λ (m : ℕ). sets l₂ (block_size * m) (table_of g_kind short_word short_words m g)) ei ∙ ap (λ (x : List ℕ). sets x (block_size * g_first u) q) s₂ ∙ behind (a ++ p) q before (block_size * g_first u) n₁ in
       e₄ ∙ ap (λ (m : ℕ). sets l₃ (block_size * m) (table_of aux_kind long_word long_words m aux)) ej ∙ ap (λ (x : List ℕ). sets x (block_size * aux_first u) r) s₃ ∙ behind (a ++ p ++ q) r before (block_size * aux_first u) n₂

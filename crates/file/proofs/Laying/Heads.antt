@@ -1,14 +1,13 @@
 -- The variables laid into the head, and the head's fields together. Assumes nothing.
 use mathlib.Core.Path.{◌≡◌, refl, sym, ap, ap₂, ◌∙◌}
 use mathlib.Core.List.{List, [], ◌∷◌, ◌++◌, append-nil, append_assoc}
-use Prim.Native.Nat.{ℕ, suc, ◌+◌, ◌-◌, ◌*◌, ◌/◌, ◌%◌, ◌≤◌, ◌<◌, min}
+use Prim.Native.Nat.{ℕ, suc, ◌+◌, ◌-◌, ◌*◌, ◌/◌, ◌%◌, ◌≤◌, ◌<◌}
 use native.Mathlib.Nat.{mod-eq_of_lt}
-use native.Mathlib.Numerals.{add-one}
 use native.Mathlib.Omega.{arith}
-use lib.ListN.{length, get_or, take, set, replicate, length-append, length-map, length-set, length-replicate, replicate-append-replicate, get_or-map}
-use lib.Seq.{sets, length-take-le, take-set-lt, set-append_seam}
-use Rattle.lists.proofs.Entries.Members.{take_more, map_take}
-use Rattle.lists.proofs.Entries.Parts.{take_least}
+use lib.ListN.{length, get_or, take, drop, set, replicate, length-append, length-map, length-replicate, replicate-append-replicate, get_or-map}
+use lib.Seq.{sets, length-sets, length-take-le, take_all, take-set-lt, set-append_seam}
+use borrow.Rule.Slice.PartMut.{put_mid}
+use Rattle.lists.proofs.Entries.Members.{take_more}
 use Rattle.lists.proofs.Writing.Storing.{sets_append}
 use Rattle.vectors.specs.declared.Kind.{Kind}
 use Rattle.vectors.specs.declared.Kind.TheVariants.{One, Two}
@@ -20,6 +19,7 @@ use Rattle.record.specs.Record.{mark_number, kinds_in}
 use Rattle.record.proofs.MarkNumbers.{mark_low}
 use Rattle.block.specs.Bytes.{little_of}
 use Rattle.block.specs.Block.{payload_at, check_at, opening_of, padded, sealed, block_of}
+use Rattle.block.proofs.Laying.Putting.{part_set, number_set}
 use Rattle.block.proofs.Laying.Words.{length_opening, length_padded, laid}
 use Rattle.file.specs.Layout.{head_kind, letters_at, variables_at, mark_at}
 use Rattle.file.specs.File.{opening, variable_bytes, variables_bytes, head_payload, head_of}
@@ -38,6 +38,12 @@ unfolding variables_bytes
 variables_end [] k = append-nil (variable_bytes k)
 variables_end (j ∷ ks) k = ap (λ (l : List ℕ). variable_bytes j ++ l) (variables_end ks k) ∙ sym (append_assoc (variable_bytes j) (variables_bytes ks) (variable_bytes k))
 
+-- bytes written behind those that were
+pub laid_more : (base b bytes new : List ℕ) (at from k : ℕ) → from ≡ at + length bytes → length new ≡ k → from + k ≤ length base → b ≡ sets base at bytes → put_mid from k b new ≡ sets base at (bytes ++ new)
+laid_more base b bytes new at from k f n room e =
+    let l : length b ≡ length base = ap length e ∙ length-sets base at bytes in
+    part_set b new from k n (omega arith) ∙ ap₂ (λ (x : List ℕ) (i : ℕ). sets x i new) e f ∙ sym (sets_append bytes new base at)
+
 -- ---- the loop over the variables
 
 -- at variable i: l is left of before
@@ -49,28 +55,22 @@ pub placing_none : (ks : List Kind) (before : List ℕ) → Placing ks before be
 unfolding variables_bytes
 placing_none ks before = record { long = refl; is = refl }
 
-pub placing_more : (vs : List Variable) (before l : List ℕ) (i x y : ℕ) (d : Variable) → i < length vs → x ∷ y ∷ [] ≡ variable_bytes (get_or vs i d).kind → Placing (kinds_of vs) before l i
-    → Placing (kinds_of vs) before (set (set l (variables_at + 2 * i) x) (variables_at + 2 * i + 1) y) (i + 1)
-placing_more vs before l i x y d h e s =
+pub placing_more : (vs : List Variable) (before l bytes : List ℕ) (i : ℕ) (d : Variable) → i < length vs → variables_at + 2 * length vs ≤ length before → bytes ≡ variable_bytes (get_or vs i d).kind
+    → Placing (kinds_of vs) before l i → Placing (kinds_of vs) before (put_mid (variables_at + 2 * i) 2 l bytes) (i + 1)
+placing_more vs before l bytes i d h room e s =
     let ks : List Kind = kinds_of vs in
     let j : i < length ks = omega (arith, length-map vs (λ v. v.kind)) in
-    let q : x ∷ y ∷ [] ≡ variable_bytes (get_or ks i d.kind) = e ∙ ap variable_bytes (sym (get_or-map (λ (v : Variable). v.kind) vs i d)) in
+    let q : bytes ≡ variable_bytes (get_or ks i d.kind) = e ∙ ap variable_bytes (sym (get_or-map (λ (v : Variable). v.kind) vs i d)) in
     let v : List ℕ = variables_bytes (take i ks) in
     let n : variables_at + length v ≡ variables_at + 2 * i = omega (arith, length_variables (take i ks), length-take-le i ks (omega arith)) in
-    let m : variables_bytes (take (i + 1) ks) ≡ v ++ (x ∷ y ∷ []) =
+    let m : variables_bytes (take (i + 1) ks) ≡ v ++ bytes =
     ap variables_bytes (take_more ks i d.kind j) ∙ variables_end (take i ks) (get_or ks i d.kind) ∙ ap (λ (l : List ℕ). v ++ l) (sym q) in
-    let t : sets before variables_at (v ++ (x ∷ y ∷ [])) ≡ sets (sets before variables_at v) (variables_at + 2 * i) (x ∷ y ∷ []) =
-    rw n at (sets_append v (x ∷ y ∷ []) before variables_at) in
-    record {
-      long = length-set (set l (variables_at + 2 * i) x) (variables_at + 2 * i + 1) y ∙ length-set l (variables_at + 2 * i) x ∙ s.long;
-      is = rw add-one (ap (λ (l : List ℕ). sets l (variables_at + 2 * i) (x ∷ y ∷ [])) s.is ∙ sym t ∙ ap (sets before variables_at) (sym m));
-    }
+    let b : put_mid (variables_at + 2 * i) 2 l bytes ≡ sets before variables_at (v ++ bytes) =
+    laid_more before l v bytes variables_at (variables_at + 2 * i) 2 (sym n) (ap length q ∙ length_variable (get_or ks i d.kind)) (omega arith) s.is in
+    record { long = ap length b ∙ length-sets before variables_at (v ++ bytes); is = b ∙ ap (sets before variables_at) (sym m) }
 
-pub placing_end : (vs : List Variable) (before l : List ℕ) (p i : ℕ) → length vs ≡ max_variables → i ≡ min p max_variables → Placing (kinds_of vs) before l i
-    → l ≡ sets before variables_at (variables_bytes (kinds_of (take p vs)))
-placing_end vs before l p i n e s =
-    let t : take i (kinds_of vs) ≡ kinds_of (take p vs) = ap (λ (j : ℕ). take j (kinds_of vs)) e ∙ take_least p (kinds_of vs) max_variables (length-map vs (λ v. v.kind) ∙ n) ∙ sym (map_take (λ (v : Variable). v.kind) p vs) in
-    s.is ∙ ap (λ (ks : List Kind). sets before variables_at (variables_bytes ks)) t
+pub placing_end : (vs : List Variable) (before l : List ℕ) (i : ℕ) → length vs ≤ i → Placing (kinds_of vs) before l i → l ≡ sets before variables_at (variables_bytes (kinds_of vs))
+placing_end vs before l i h s = s.is ∙ ap (λ (ks : List Kind). sets before variables_at (variables_bytes ks)) (take_all i (kinds_of vs) (omega (arith, length-map vs (λ v. v.kind))))
 
 -- ---- the fields together
 
@@ -87,6 +87,13 @@ fields_of u =
 -- byte 67
 abbrev pub mark_bytes : Record → List ℕ
 mark_bytes u = mark_number u.mark % 256 ∷ []
+
+-- a field behind those before it
+pub field_more : (base b bytes new : List ℕ) (from k number : ℕ) → from ≡ letters_at + length bytes → from + k ≤ length base → b ≡ sets base letters_at bytes
+    → new ≡ little_of (length (take k (drop from b))) number → put_mid from k b new ≡ sets base letters_at (bytes ++ little_of k number)
+field_more base b bytes new from k number f room e n =
+    let l : length b ≡ length base = ap length e ∙ length-sets base letters_at bytes in
+    number_set b new from k number n (omega arith) ∙ ap₂ (λ (x : List ℕ) (i : ℕ). sets x i (little_of k number)) e f ∙ sym (sets_append bytes (little_of k number) base letters_at)
 
 pub fields_are : (u : Record) → head_payload u ≡ fields_of u ++ padded (2 * max_variables) (variables_bytes (kinds_in u)) ++ mark_bytes u
 unfolding head_payload little_of

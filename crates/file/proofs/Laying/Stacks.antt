@@ -1,16 +1,17 @@
 -- Blocks laid one after another into a target. Assumes nothing.
 use mathlib.Core.Path.{◌≡◌, refl, sym, ap, ap₂, ◌∙◌}
-use mathlib.Core.List.{List, ◌++◌, append_assoc}
+use mathlib.Core.List.{List, ◌++◌, append_assoc, map}
 use Prim.Native.Nat.{ℕ, zero, suc, ◌+◌, ◌-◌, ◌*◌, ◌≤◌}
 use native.Mathlib.Nat.{mul-le-mul_left}
 use native.Mathlib.Numerals.{add-one}
 use native.Mathlib.Omega.{arith}
 use mathlib.Core.Bool.{true}
 use lib.Dec.{eqb}
-use lib.ListN.{length, take, drop, length-append, length-take, length-drop}
+use lib.ListN.{length, take, drop, length-append, length-take, length-drop, length-map}
 use lib.Seq.{sets, sets-eq, length-sets, length-take-le, take_all, drop-drop}
 use borrow.Author.Tests.{eq-eqb}
 use borrow.Rule.Slice.PartMut.{mid_of, put_mid}
+use Rattle.lists.proofs.Entries.Members.{map_take, map_drop}
 use Rattle.lists.proofs.Writing.Storing.{sets_append}
 use Rattle.block.specs.Bytes.{words_of}
 use Rattle.block.specs.Block.{block_size, payload_at, check_at, block_of, in_block}
@@ -82,3 +83,10 @@ pub stacked_table : (kind size per first : ℕ) (words before l : List ℕ) (i :
     → Stacked (table_block kind size per first words) first before l i → l ≡ sets before (block_size * first) (table_of kind size per first words)
 unfolding table_of
 stacked_table kind size per first words before l i e f s = rw (e, f) at s.is
+
+-- a part of mapped words
+pub mapped_part : {A : Type 0} (f : A → ℕ) (words : List A) (i : ℕ) → map f (mid_of i (length words - i) words) ≡ mid_of i (length (map f words) - i) (map f words)
+mapped_part f words i =
+    map_take f (length words - i) (drop i words)
+    ∙ ap (take (length words - i)) (map_drop f i words)
+    ∙ ap (λ (n : ℕ). take (n - i) (drop i (map f words))) (sym (length-map words f))

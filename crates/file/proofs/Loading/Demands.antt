@@ -15,7 +15,7 @@ use Rattle.record.specs.Tables.{Tables}
 use Rattle.record.specs.Holds.{Holds}
 use Rattle.lookup.specs.Lookup.{lookup_of}
 use Rattle.recover.specs.Recover.{recover_of}
-use Rattle.build.specs.declared.Refusal.{Refusal}
+use Rattle.build.specs.Built.{Refusal}
 use Rattle.build.specs.Build.{rows_share, Outcome, outcome, chosen_refusal, given_refusal, build_chosen, build_given, chosen_kinds}
 use Rattle.build.proofs.Holding.Ends.{outcome_accepted}
 use Rattle.build.proofs.Holding.Holds.{chosen_holds, given_holds}

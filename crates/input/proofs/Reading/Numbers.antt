@@ -1,143 +1,161 @@
 -- The numbers of a text, counted and then written one by one. Assumes nothing.
-use Prim.Native.Nat.{ℕ, suc, ◌+◌, ◌≤◌, ◌<◌}
+use Prim.Native.Nat.{ℕ, zero, suc, ◌+◌, ◌-◌, ◌≤◌, ◌<◌}
 use native.Mathlib.Omega.{arith}
 use native.Mathlib.Numerals.{add-one}
-use mathlib.Core.Path.{◌≡◌, refl, sym, ap, ◌∙◌}
-use mathlib.Core.Bool.{Bool, true, false, cond, true≢false}
-use mathlib.Core.List.{List, [], ◌∷◌, ◌++◌, map, append-nil}
-use mathlib.Core.Logic.{◌⊎◌, inl, inr}
-use lib.ListN.{length, take, drop, set, length-set, length-drop}
-use lib.Seq.{take_all, take-suc-set, append_snoc}
-use Rattle.lists.proofs.Tests.{and_true, le_or_lt}
-use Rattle.input.specs.declared.decimal.Number.{Number}
-use Rattle.input.specs.Fields.{fields}
+use mathlib.Core.Path.{◌≡◌, refl, sym, ap, ◌∙◌, subst}
+use mathlib.Core.Bool.{Bool, true, false, cond, false≢true}
+use mathlib.Core.List.{List, [], ◌∷◌, map}
+use Rattle.std.proofs.Common.{zero-add}
+use lib.ListN.{length, get_or, take, drop, set, length-drop, drop_of_length-le}
+use lib.Seq.{drop-cons, take-suc, take_all, take-suc-set}
+use denote.Param.Members.{Mut}
+use denote.Ref.{Bor}
+use Rattle.std.specs.Fn.{CalledAt}
+use Rattle.std.specs.declared.slice.Split.{Split}
+use Rattle.std.specs.Iterator.{Yields}
+use Rattle.std.proofs.lemmas.Iterator.Consumers.{YieldsList-at, YieldsList-turn, YieldsList-end, YieldsList-from_enumerate}
+use Rattle.std.proofs.lemmas.List.FromFn.{length-enumerate_from, get_or-enumerate_from}
+use Rattle.std.specs.Iterator.Adapters.{enumerate_source, enumerate_count, enumerate_steps}
+use Rattle.std.specs.declared.iter.Enumerate.{Enumerate}
+use Rattle.std.proofs.lemmas.List.{get_or_default}
+use Rattle.std.specs.Slice.Iter.{split_rest, split_done, split_callee, split_steps}
+use Rattle.std.proofs.lemmas.Iterator.Splits.{YieldsList-from_slice_split}
+use Rattle.std.specs.Prelude.{Option, Some, None}
+use Rattle.std.specs.List.{slice_split, onto_first}
+use Rattle.std.proofs.lemmas.List.Splits.{length-slice_split}
+use Rattle.std.proofs.lemmas.List.Recursion.{same_from_clauses}
+use Rattle.std.proofs.lemmas.List.Sums.{count_by-le-length}
+use Rattle.std.proofs.lemmas.Iterator.{YieldsList}
+use Rattle.lists.proofs.Tests.{and_true}
+use Rattle.lists.proofs.Entries.Members.{get_d_map}
+use Rattle.input.specs.Fields.{separator, onto, fields}
 use Rattle.lists.specs.Members.{every}
 use Rattle.input.specs.Decimal.{good_field, value_of}
-use Rattle.input.specs.Inner.Number.{field, number_at}
-use Rattle.input.specs.Inner.Reading.{left, count_of}
-use Rattle.input.proofs.Decimals.Field.{field_length}
-use Rattle.input.proofs.Reading.Fields.{left_all, left_out, left_first}
-use Rattle.input.proofs.Decimals.Digits.{number_by, field_at_is}
+use Rattle.input.specs.Input.{input_from}
+use Rattle.input.specs.Inner.{value_in, count_of}
+use Rattle.input.proofs.Decimals.{value_some, value_none}
 
--- the field at a place, by its number
-record Got (text : List ℕ) (at : ℕ) (r : Number) : Type 0 where
-  good : good_field (field (drop at text)) ≡ r.good
-  value : r.good ≡ true → r.value ≡ value_of (field (drop at text))
-  end : r.good ≡ true → r.end ≡ at + length (field (drop at text))
+onto_is : (b : ℕ) (l : List (List ℕ)) → onto b l ≡ onto_first b l
+unfolding onto
+onto_is b [] = refl
+onto_is b (f ∷ fs) = refl
 
-got : (text : List ℕ) (at : ℕ) (r : Number) → r ≡ number_at text at → Got text at r
-unfolding number_at
-got text at r e = go (good_field (field (drop at text))) refl
+fields_step : (b : ℕ) (bs : List ℕ) → fields (b ∷ bs) ≡ cond (separator b) ([] ∷ fields bs) (onto_first b (fields bs))
+unfolding fields
+fields_step b bs = go (separator b)
   where
-    go : (t : Bool) → good_field (field (drop at text)) ≡ t → Got text at r
-    go true h =
-        let q : r ≡ number_by true at (field (drop at text)) = e ∙ field_at_is at (field (drop at text)) h in
-        record { good = h ∙ sym (ap (λ (x : Number). x.good) q); value = λ _. ap (λ (x : Number). x.value) q; end = λ _. ap (λ (x : Number). x.end) q }
-    go false h =
-        let q : r ≡ number_by false at (field (drop at text)) = e ∙ field_at_is at (field (drop at text)) h in
-        let b : r.good ≡ false = ap (λ (x : Number). x.good) q in
-        record { good = h ∙ sym b; value = λ g. absurd (true≢false (sym g ∙ b)); end = λ g. absurd (true≢false (sym g ∙ b)) }
+    go : (t : Bool) → (elim t [ true ↦ [] ∷ fields bs | false ↦ onto b (fields bs) ]) ≡ cond t ([] ∷ fields bs) (onto_first b (fields bs))
+    go true = refl
+    go false = onto_is b (fields bs)
+
+-- the library's word for the parts
+pub fields_split : (text : List ℕ) → slice_split separator text ≡ fields text
+unfolding fields
+fields_split text = same_from_clauses (slice_split separator) fields (λ x l. cond (separator x) ([] ∷ l) (onto_first x l)) refl (λ _ _. refl) fields_step text
+
+pub fields_few : (text : List ℕ) → length (fields text) ≤ length text + 1
+fields_few text = rw (← fields_split text) (omega (arith, length-slice_split separator text, count_by-le-length separator text))
 
 -- ---- counted
 
-abbrev more : ℕ → List (List ℕ) → ℕ
-more found fs = cond (every good_field fs) (found + length fs) 0
+-- the first i fields are numbers
+pub record Counting (fs : List (List ℕ)) (i : ℕ) : Type 0 where
+  pub within : i ≤ length fs
+  pub is : every good_field fs ≡ every good_field (drop i fs)
 
--- the numbers in front of a place have been counted
-pub record Counting (text : List ℕ) (found at : ℕ) : Type 0 where
-  pub low : at ≤ length text + 1
-  pub few : found ≤ at
-  pub is : count_of (fields text) ≡ more found (left text at)
+pub counting_none : (fs : List (List ℕ)) → Counting fs 0
+counting_none fs = record { within = omega arith; is = refl }
 
-pub counting_none : (text : List ℕ) → Counting text 0 0
-unfolding count_of
-counting_none text =
-    let z : length (fields text) ≡ 0 + length (fields text) = omega arith in
-    record { low = omega arith; few = omega arith; is = rw (left_all text) (ap (λ (n : ℕ). cond (every good_field (fields text)) n 0) z) }
-
-module _ {text : List ℕ} {found at : ℕ} (c : Counting text found at) where
-  module _ (r : Number) (h : at ≤ length text) (e : r ≡ number_at text at) where
-    pub counting_more : r.good ≡ true → (r.end ≤ length text) × (at ≤ r.end) × Counting text (found + 1) (r.end + 1)
+module _ {fs : List (List ℕ)} {i : ℕ} (c : Counting fs i) where
+  module _ (h : i < length fs) where
+    pub counting_more : good_field (get_or fs i []) ≡ true → Counting fs (i + 1)
     unfolding every
-    counting_more g =
-        let o = got text at r e in
-        let n : r.end ≡ at + length (field (drop at text)) = o.end g in
-        let l : at + length (field (drop at text)) ≤ length text = omega (arith, field_length (drop at text), length-drop at text) in
-        let s : found + suc (length (left text (at + length (field (drop at text)) + 1))) ≡ found + 1 + length (left text (at + length (field (drop at text)) + 1)) = omega arith in (
-          omega arith,
-          omega arith,
-          record {
-            low = omega arith;
-            few = omega (arith, c.few);
-            is = c.is ∙ rw (left_first text at h, o.good, g, s, n);
-          },
-        )
+    counting_more g = record { within = omega arith; is = c.is ∙ rw (drop-cons fs i [] h, add-one i, g) }
 
-    pub counting_bad : r.good ≡ false → count_of (fields text) ≡ 0
-    unfolding every
-    counting_bad b = c.is ∙ rw (left_first text at h, (got text at r e).good, b)
+    pub counting_bad : good_field (get_or fs i []) ≡ false → count_of fs ≡ None
+    unfolding every count_of
+    counting_bad b =
+        let n : every good_field fs ≡ false = c.is ∙ rw (drop-cons fs i [] h, b) in
+        rw (n, count_of)
 
-  pub counting_end : length text < at → count_of (fields text) ≡ found
-  unfolding every
-  counting_end h = let z : found + 0 ≡ found = omega arith in c.is ∙ rw (left_out text at h) z
+  pub counting_end : length fs ≤ i → count_of fs ≡ Some i
+  unfolding every count_of
+  counting_end h =
+      let e : length fs ≡ i = omega (arith, c.within) in
+      let y : every good_field fs ≡ true = c.is ∙ rw (drop_of_length-le fs {i = i} h) in
+      rw (y, count_of) (ap Some e)
 
 -- ---- written
 
--- a number, and those after it
-pub record Next (text : List ℕ) (at : ℕ) (r : Number) : Type 0 where
-  pub is : map value_of (left text at) ≡ r.value ∷ map value_of (left text (r.end + 1))
-  pub good : every good_field (left text (r.end + 1)) ≡ true
-  pub size : length (left text at) ≡ suc (length (left text (r.end + 1)))
-  pub low : r.end ≤ length text
-
-pub next : (text : List ℕ) (at : ℕ) (r : Number) → r ≡ number_at text at → every good_field (left text at) ≡ true → 0 < length (left text at) → Next text at r
+every_at : (fs : List (List ℕ)) (i : ℕ) → every good_field fs ≡ true → i < length fs → good_field (get_or fs i []) ≡ true
 unfolding every
-next text at r e a p = go (le_or_lt at (length text))
-  where
-    go : (at ≤ length text) ⊎ (length text < at) → Next text at r
-    go (inl h) =
-        let o = got text at r e in
-        let s = left_first text at h in
-        let f = field (drop at text) in
-        let t = and_true (good_field f) (every good_field (left text (at + length f + 1))) (rw s at a) in
-        let g : r.good ≡ true = sym o.good ∙ t.0 in
-        record {
-          is = rw (s, o.value g, o.end g);
-          good = rw (o.end g) t.1;
-          size = rw (s, o.end g);
-          low = omega (arith, o.end g, field_length (drop at text), length-drop at text);
-        }
-    go (inr h) = let z : length (left text at) ≡ 0 = ap length (left_out text at h) in absurd (omega arith)
+every_at [] i g h = absurd (omega arith)
+every_at (f ∷ fs) zero g h = (and_true (good_field f) (every good_field fs) g).0
+every_at (f ∷ fs) (suc i) g h = every_at fs i (and_true (good_field f) (every good_field fs) g).1 (omega arith)
 
--- the first i words are the numbers from `from` on in front of `at`
-pub record Listing (text : List ℕ) (from : ℕ) (old words : List ℕ) (at i : ℕ) : Type 0 where
-  pub size : length words ≡ length old
-  pub good : every good_field (left text at) ≡ true
-  pub rest : i + length (left text at) ≡ length old
-  pub is : map value_of (left text from) ≡ take i words ++ map value_of (left text at)
+-- a field of good ones is a number
+module _ (fs : List (List ℕ)) (i : ℕ) (g : every good_field fs ≡ true) (h : i < length fs) (f : List ℕ) (e : f ≡ get_or fs i []) where
+  pub good_some : (x : ℕ) → value_in f ≡ Some x → x ≡ get_or (map value_of fs) i 0
+  good_some x q = (value_some f x q).1 ∙ ap value_of e ∙ sym (get_d_map value_of fs i [] 0 h)
 
-pub listing_none : (text : List ℕ) (from : ℕ) (old : List ℕ) → every good_field (left text from) ≡ true → length (left text from) ≡ length old → Listing text from old old from 0
-listing_none text from old g s = record { size = refl; good = g; rest = omega arith; is = refl }
+  pub good_none : value_in f ≡ None → ⊥
+  good_none q =
+      let a : good_field (get_or fs i []) ≡ false = ap good_field (sym e) ∙ value_none f q in
+      false≢true (sym a ∙ every_at fs i g h)
 
-none : (l : List (List ℕ)) → length l ≡ 0 → map value_of l ≡ []
-none [] e = refl
-none (x ∷ l) e = absurd (omega arith)
+-- an iterator that has the fields from i on left
+module _ {S A : Type 0} {steps : S → Option A → S → Type 0} {v : A → List ℕ} {s t : S} {r : Option A} (fs : List (List ℕ)) (i : ℕ) (y : YieldsList steps v s (drop i fs)) (h : i < length fs) (e : steps s r t) where
+  abbrev front : YieldsList steps v s (get_or fs i [] ∷ drop (suc i) fs)
+  front = rw (drop-cons fs i [] h) at y
 
-module _ {text : List ℕ} {from : ℕ} {old words : List ℕ} {at i : ℕ} (l : Listing text from old words at i) where
-  -- the next number is there
-  pub listing_next : (r : Number) → i < length words → r ≡ number_at text at → Next text at r
-  listing_next r h e = next text at r e l.good (omega (arith, l.size, l.rest))
+  pub part_some : r ≡ None → ⊥
+  part_some n = front.runs.0 t (subst (λ (q : Option A). steps s q t) n e)
 
-  pub listing_more : (r : Number) → i < length words → r ≡ number_at text at → Listing text from old (set words i r.value) (r.end + 1) (i + 1)
-  listing_more r h e =
-      let x = listing_next r h e in
-      record {
-        size = length-set words i r.value ∙ l.size;
-        good = x.good;
-        rest = omega (arith, x.size, l.rest);
-        is = l.is ∙ rw (x.is, add-one i, take-suc-set words i r.value h) (sym (append_snoc (take i words) r.value (map value_of (left text (r.end + 1)))));
-      }
+  module _ (x : A) (q : r ≡ Some x) where
+    pub part_is : v x ≡ get_or fs i []
+    part_is = (front.runs.1 x t (subst (λ (q : Option A). steps s q t) q e)).0
 
-  pub listing_end : length words ≤ i → words ≡ map value_of (left text from)
-  listing_end h =
-      sym (l.is ∙ rw (take_all i words h, none (left text at) (omega (arith, l.size, l.rest))) (append-nil words))
+    pub part_next : YieldsList steps v t (drop (i + 1) fs)
+    part_next = rw (add-one i) (record { runs = (front.runs.1 x t (subst (λ (q : Option A). steps s q t) q e)).1 })
+
+-- an iterator that has all fields left
+module _ {F : Type 0} (g : Mut F (Bor ℕ × Unit {0}) Bool) {f : F} (s made : Split ℕ F) (same : s ≡ made) (text : List ℕ) (rest : split_rest made ≡ text) (done : split_done made ≡ false) (closure : split_callee made ≡ f)
+    (test : (x : ℕ) (b : Bool) (q : F) → CalledAt g f x b q → (q ≡ f) × (b ≡ separator x)) where
+  pub parts : YieldsList (split_steps g) (λ x. x.now) s (drop 0 (fields text))
+  parts = YieldsList-at same (rw (fields_split text) at (YieldsList-from_slice_split {s = made} g separator text rest done closure test))
+
+-- a loop over an iterator that has all fields left
+module _ {S A : Type 0} {steps : S → Option A → S → Type 0} {v : A → List ℕ} {s : S} (fs : List (List ℕ)) (all : YieldsList steps v s fs) (xs : List A) (t : S) (y : Yields steps s xs t) (r : Option A) (u : S) (e : steps t r u) where
+  pub loop_end : r ≡ None → length fs ≤ length xs
+  loop_end n = let l = (YieldsList-end all xs t y r u n e).1 in omega arith
+
+  pub loop_turn : (x : A) → r ≡ Some x → (length xs < length fs) × (v x ≡ get_or fs (length xs) [])
+  loop_turn x n = let k = YieldsList-turn all xs t y r u x n e in (k.0, k.1 ∙ get_or_default fs (length xs) (v x) [] k.0)
+
+-- the same where the fields come with their places
+module _ {S A : Type 0} {steps : S → Option A → S → Type 0} {v : A → List ℕ} {s : Enumerate S} (fs : List (List ℕ)) (all : YieldsList steps v (enumerate_source s) fs) (zero : enumerate_count s ≡ 0)
+    (xs : List (ℕ × A)) (t : Enumerate S) (y : Yields (enumerate_steps steps) s xs t) (r : Option (ℕ × A)) (u : Enumerate S) (e : enumerate_steps steps t r u) where
+  pub places_end : r ≡ None → length fs ≤ length xs
+  places_end n =
+      let l = (YieldsList-end (YieldsList-from_enumerate all zero) xs t y r u n e).1 in
+      omega (arith, l, length-enumerate_from 0 fs)
+
+  pub places_turn : (x : ℕ × A) → r ≡ Some x → (length xs < length fs) × (x.0 ≡ length xs) × (v x.1 ≡ get_or fs (length xs) [])
+  places_turn x n =
+      let k = YieldsList-turn (YieldsList-from_enumerate all zero) xs t y r u x n e in
+      let h : length xs < length fs = omega (arith, k.0, length-enumerate_from 0 fs) in
+      let q = k.1 ∙ get_or-enumerate_from 0 fs (length xs) (x.0, v x.1) h in
+      (h, ap (λ (p : ℕ × List ℕ). p.0) q ∙ zero-add (length xs), ap (λ (p : ℕ × List ℕ). p.1) q ∙ get_or_default fs (length xs) (v x.1) [] h)
+
+-- one more word written
+pub written_more : (words ns : List ℕ) (n i v : ℕ) → i ≡ n → n < length words → n < length ns → take n words ≡ take n ns → v ≡ get_or ns n 0 → take (n + 1) (set words i v) ≡ take (n + 1) ns
+written_more words ns n i v e h k w q = rw (e, add-one n, take-suc-set words n v h, w, q) (sym (take-suc ns n 0 k))
+
+-- the first three numbers, and the others written
+pub numbers_read : (ns words : List ℕ) (m a b c : ℕ) → length ns ≡ 3 + length words → a ≡ get_or ns 0 0 → b ≡ get_or ns 1 0 → c ≡ get_or ns 2 0 → length words ≤ m → take m words ≡ take m (drop 3 ns)
+    → (record { good = true; n = a; degree = b; cells = c; count = length words } ≡ input_from ns) × (words ≡ drop 3 ns)
+unfolding input_from
+numbers_read ns words m a b c l p q r h w =
+    let k : length words ≡ length ns - 3 = omega arith in
+    let z : length (drop 3 ns) ≤ m = omega (arith, length-drop 3 ns) in
+    (rw (p, q, r, k), sym (take_all m words h) ∙ w ∙ take_all m (drop 3 ns) z)

@@ -1,11 +1,12 @@
-use Prim.Native.Nat.{◌+◌, ◌-◌, ◌≤◌}
+use mathlib.Core.Path.{◌≡◌}
 use lib.ListN.{length}
-use Rattle.input.specs.Input.{max_text}
+use Rattle.input.specs.Fields.{fields}
 use Rattle.input.proofs.Reading.Numbers.{Counting}
 use Rattle.input.proofs.count.Given as goal
 
-abbrev pub invariant-loop-at : goal.invariant-loop-at
-invariant-loop-at l = (length l.text ≤ max_text) × Counting l.text l.found l.at
-
-abbrev pub decreases-loop-at : goal.decreases-loop-at
-decreases-loop-at l = length l.text + 1 - l.at
+abbrev pub invariant-loop-field : goal.invariant-loop-field
+invariant-loop-field l =
+    (goal.iterator-loop-field).can_next l.field-iterator
+    × (goal.iterator-loop-field).is_finite l.field-iterator
+    × (l.found ≡ length l.yielded)
+    × Counting (fields l.text) (length l.yielded)

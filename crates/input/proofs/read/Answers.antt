@@ -1,80 +1,69 @@
 use Prim.Native.Nat.{ℕ, ◌-◌, ◌≤◌}
 use native.Mathlib.Omega.{arith}
 use mathlib.Core.Path.{◌≡◌, refl, sym, ap, ◌∙◌}
-use mathlib.Core.List.{map}
+use mathlib.Core.List.{List, map}
 use lib.ListN.{length, take, drop}
 use lib.Seq.{length-take-le}
+use Rattle.std.proofs.Common.{Option}
 use Rattle.input.specs.Fields.{fields}
 use Rattle.input.specs.Decimal.{value_of}
-use Rattle.input.specs.Input.{max_text, body, input_from}
-use Rattle.input.specs.Inner.Reading.{count_of}
-use Rattle.input.proofs.Reading.Texts.{body_low, counted, bad_long, bad_few, bad_many, bad_room, good_text_lem, read_bad, read_good}
+use mathlib.Core.Bool.{false}
+use Rattle.input.specs.Input.{body_length, body, good_text, input_from}
+use Rattle.input.specs.Inner.{count_of}
+use Rattle.input.proofs.Reading.Texts.{counted, bad_long, bad_field, bad_few, bad_many, bad_room, good_text_lem, read_bad, read_good}
 use Rattle.input.proofs.read.Goals as goal
-use Rattle.input.proofs.read.Goals.{After-body_length-size, After-count-found, Start}
+use Rattle.input.proofs.read.Goals.{then-listed-gt-MAX_LISTED-via-then-listed-gt-MAX_LISTED, then-listed-gt-MAX_LISTED-via-else-listed-gt-MAX_LISTED+then-vectors-listed}
 
-size_low : (c : After-body_length-size) → c.body_length-size.result ≤ length c.args.text.now
-size_low c = omega (arith, c.body_length-size.ensures, body_low c.args.text.now)
-
-body_short : (c : After-body_length-size) → length (take c.body_length-size.result c.args.text.now) ≤ max_text
-body_short c = let l = length-take-le c.body_length-size.result c.args.text.now (size_low c) in omega (arith, size_low c, c.if-text-gt-MAX_TEXT.false)
-
--- past the count
-abbrev start : After-count-found → Start
-start c = c.before.before.before.before.before.before
-
-short : (c : After-count-found) → length (start c).args.text.now ≤ max_text
-short c = c.if-text-gt-MAX_TEXT.false
-
-count_is : (c : After-count-found) → c.count-found.result ≡ count_of (fields (body (start c).args.text.now))
-count_is c = c.count-found.ensures ∙ ap (λ (m : ℕ). count_of (fields (take m (start c).args.text.now))) c.body_length-size.ensures
+-- what was counted is the text without its final newline
+body_is : (text : List ℕ) (m : ℕ) (r : Option ℕ) → r ≡ count_of (fields (take m text)) → m ≡ body_length text → r ≡ count_of (fields (body text))
+body_is text m r e k = e ∙ ap (λ (m : ℕ). count_of (fields (take m text))) k
 
 pub returns-then-text-gt-MAX_TEXT : goal.returns-then-text-gt-MAX_TEXT
-returns-then-text-gt-MAX_TEXT c = let r = read_bad c.args.text.now c.args.vectors.now _ (bad_long _ _ c.if-text-gt-MAX_TEXT.true) refl in record { value = r.0; vectors_after = r.1 }
+returns-then-text-gt-MAX_TEXT c =
+    let r = read_bad c.args.text.now c.args.vectors.now _ (bad_long _ _ c.if-text-gt-MAX_TEXT.true) refl in
+    record { value = r.0; vectors_after = r.1 }
 
-pub slice_bounds-count-end : goal.slice_bounds-count-end
-slice_bounds-count-end c = sym (length-take-le _ _ (size_low c))
+pub returns-in_err-count : goal.returns-in_err-count
+returns-in_err-count c =
+    let e = sym (body_is _ _ _ c.count.ensures c.body_length.ensures) ∙ c.in_err-count.was in
+    let r = read_bad c.args.text.now c.args.vectors.now _ (bad_field _ _ c.if-text-gt-MAX_TEXT.false e) c.from_residual.ensures in
+    record { value = r.0; vectors_after = r.1 }
 
-pub count-found-requires : goal.count-found-requires
-count-found-requires c = body_short c
-
-pub returns-then-found-lt3 : goal.returns-then-found-lt3
-returns-then-found-lt3 c =
-    let s = start (goal.at.returns-then-found-lt3 c).After-count-found in
-    let r = read_bad s.args.text.now s.args.vectors.now _ (bad_few _ _ _ (short (goal.at.returns-then-found-lt3 c).After-count-found) (count_is (goal.at.returns-then-found-lt3 c).After-count-found) c.if-found-lt3.true) refl in record { value = r.0; vectors_after = r.1 }
+pub returns-in_err-listed : goal.returns-in_err-listed
+returns-in_err-listed c =
+    let e = sym (body_is _ _ _ c.count.ensures c.body_length.ensures) ∙ c.in_ok-count.was in
+    let few : 3 ≤ c.in_ok-count.field-0 → ⊥ = c.in_err-listed.ensures in
+    let r = read_bad c.args.text.now c.args.vectors.now _ (bad_few _ _ c.if-text-gt-MAX_TEXT.false _ e (omega arith)) c.from_residual-in_err-listed.ensures in
+    record { value = r.0; vectors_after = r.1 }
 
 pub returns-then-listed-gt-MAX_LISTED : goal.returns-then-listed-gt-MAX_LISTED
 returns-then-listed-gt-MAX_LISTED c =
-    let s = start (goal.at.returns-then-listed-gt-MAX_LISTED c).After-count-found in
-    let r = read_bad s.args.text.now s.args.vectors.now _ (bad_many _ _ _ (short (goal.at.returns-then-listed-gt-MAX_LISTED c).After-count-found) (count_is (goal.at.returns-then-listed-gt-MAX_LISTED c).After-count-found) c.if-found-lt3.false c.if-listed-gt-MAX_LISTED.true) refl in record { value = r.0; vectors_after = r.1 }
-
-pub returns-then-vectors-listed : goal.returns-then-vectors-listed
-returns-then-vectors-listed c =
-    let s = start (goal.at.returns-then-vectors-listed c).After-count-found in
-    let r = read_bad s.args.text.now s.args.vectors.now _
-    (bad_room _ _ _ (short (goal.at.returns-then-vectors-listed c).After-count-found) (count_is (goal.at.returns-then-vectors-listed c).After-count-found) c.if-found-lt3.false c.if-listed-gt-MAX_LISTED.false c.if-vectors-listed.true)
-    refl in record { value = r.0; vectors_after = r.1 }
-
-pub slice_bounds-numbers-end : goal.slice_bounds-numbers-end
-slice_bounds-numbers-end c = sym (length-take-le _ _ (size_low (goal.at.slice_bounds-numbers-end c).After-body_length-size))
-
-pub slice_bounds-numbers-end-2 : goal.slice_bounds-numbers-end-2
-slice_bounds-numbers-end-2 c = c.if-vectors-listed.false
-
-pub slice_bounds-numbers-end-3 : goal.slice_bounds-numbers-end-3
-slice_bounds-numbers-end-3 c = sym (length-take-le _ _ c.if-vectors-listed.false)
+    let e = sym (body_is _ _ _ c.count.ensures c.body_length.ensures) ∙ c.in_ok-count.was in
+    let n = c.in_ok-listed.ensures in
+    let bad : good_text c.args.text.now (length c.args.vectors.now) ≡ false = elim c.then-listed-gt-MAX_LISTED.branch [
+      | then-listed-gt-MAX_LISTED-via-then-listed-gt-MAX_LISTED w ↦ bad_many _ _ c.if-text-gt-MAX_TEXT.false _ e (omega arith) (omega arith)
+      | then-listed-gt-MAX_LISTED-via-else-listed-gt-MAX_LISTED+then-vectors-listed w ↦ bad_room _ _ c.if-text-gt-MAX_TEXT.false _ e (omega arith) (omega arith) (omega arith)
+    ] in
+    let r = read_bad c.args.text.now c.args.vectors.now _ bad refl in
+    record { value = r.0; vectors_after = r.1 }
 
 pub numbers-requires : goal.numbers-requires
 numbers-requires c =
-    let l = length-take-le (c.count-found.result - 3) (start (goal.at.numbers-requires c).After-count-found).args.vectors.now c.if-vectors-listed.false in
-    let k = counted _ _ c.count-found.ensures (omega (arith, c.if-found-lt3.false)) in
-    (body_short (goal.at.numbers-requires c).After-body_length-size, k.0, omega (arith, k.1, c.if-found-lt3.false))
+    let k = counted _ _ (sym c.count.ensures ∙ c.in_ok-count.was) in
+    let n = c.in_ok-listed.ensures in
+    record { good = k.0; size = omega (arith, k.1, length-take-le c.in_ok-listed.listed c.args.vectors.now c.if-vectors-listed.false) }
 
 pub returns : goal.returns
 returns c =
-    let s = start (goal.at.returns c).After-count-found in
-    let k = counted _ _ (count_is (goal.at.returns c).After-count-found) (omega (arith, c.if-found-lt3.false)) in
-    let r = read_good s.args.text.now s.args.vectors.now _ c.count-found.result _
-    (good_text_lem _ _ _ (short (goal.at.returns c).After-count-found) (count_is (goal.at.returns c).After-count-found) c.if-found-lt3.false c.if-listed-gt-MAX_LISTED.false c.if-vectors-listed.false)
+    let text = c.args.text.now in
+    let e = sym (body_is _ _ _ c.count.ensures c.body_length.ensures) ∙ c.in_ok-count.was in
+    let n = c.in_ok-listed.ensures in
+    let k = counted _ _ e in
+    let m = c.body_length.ensures in
+    let z : c.in_ok-count.field-0 - 3 ≡ c.in_ok-listed.listed = omega arith in
+    let r = read_good text c.args.vectors.now _ c.in_ok-count.field-0 _
+    (good_text_lem _ _ c.if-text-gt-MAX_TEXT.false _ e (omega arith) (omega arith) (omega arith))
     k.1
-    (c.numbers.ensures.value ∙ ap (λ (m : ℕ). input_from (map value_of (fields (take m s.args.text.now)))) c.body_length-size.ensures)
-    (c.numbers.ensures.vectors_after ∙ ap (λ (m : ℕ). drop 3 (map value_of (fields (take m s.args.text.now)))) c.body_length-size.ensures) in record { value = r.0; vectors_after = r.1 }
+    (c.numbers.ensures.0 ∙ ap (λ (m : ℕ). input_from (map value_of (fields (take m text)))) m)
+    (c.numbers.ensures.1 ∙ ap (λ (m : ℕ). drop 3 (map value_of (fields (take m text)))) m) in
+    record { value = r.0; vectors_after = rw z at r.1 }

@@ -5,11 +5,13 @@ use mathlib.Core.Bool.{true}
 use mathlib.Core.List.{List}
 use lib.ListN.{length, replicate, length-set, length-replicate}
 use lib.Seq.{length-take-le}
+use Rattle.refusal.specs.declared.Refused.{Refused}
+use Rattle.refusal.specs.Refusal.{number_of}
 use Rattle.vectors.specs.Bounds.{max_vectors, max_words}
 use Rattle.record.specs.Tables.{Tables, lent}
 use Rattle.recover.specs.Every.{listed}
 use Rattle.recover.proofs.Every.{listed_few}
-use Rattle.print.specs.Print.{fitted}
+use Rattle.print.specs.Print.{fitted, refused_text}
 use Rattle.listing.proofs.Lists.{list_not, words_many, list_printed}
 use Rattle.listing.proofs.list.Goals as goal
 use Rattle.listing.proofs.list.Goals.{After-struct_known-1, Else-not-recover_all, Start}
@@ -39,6 +41,7 @@ many e = words_many _ _ (is_listed e) (replicate max_words 0) (words e) e.recove
 pub returns-then-not-recover_all : goal.returns-then-not-recover_all
 returns-then-not-recover_all c =
     c.refused.ensures
+    ∙ ap (λ (r : Refused). fitted (refused_text (number_of r.refusal) r.place) c.args.out.now) c.at.ensures
     ∙ ap (λ (x : List ℕ). fitted x c.args.out.now) (list_not c.args.unit (tables (goal.at.returns-then-not-recover_all c).Start) (sym c.recover_all.ensures.value ∙ c.if-not-recover_all.true))
 
 pub overflow_add-last : goal.overflow_add-last

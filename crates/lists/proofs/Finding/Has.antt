@@ -6,8 +6,8 @@ use mathlib.Core.List.{List, [], ◌∷◌}
 use mathlib.Core.Logic.{◌⊎◌, inl, inr, ⊎_elim}
 use lib.Dec.{eqb}
 use borrow.Author.Tests.{eqb-true, eqb-false, eq-eqb, ne_eqb}
+use Rattle.std.proofs.lemmas.Bool.{or_cases, or_parts, or_right}
 use Rattle.lists.specs.First.{has}
-use Rattle.lists.proofs.Tests.{or_true, or_false, or_right}
 use Rattle.lists.specs.Members.{In}
 
 pub has_other : (x y : ℕ) (l : List ℕ) → (x ≡ y → ⊥) → has x (y ∷ l) ≡ has x l
@@ -21,7 +21,7 @@ has_self x l = rw (eq-eqb x x refl)
 pub has_in : (x : ℕ) (l : List ℕ) → has x l ≡ true → In x l
 unfolding has
 has_in x [] h = absurd (false≢true h)
-has_in x (y ∷ l) h = ⊎_elim (λ e. inl (eqb-true x y e)) (λ e. inr (has_in x l e)) (or_true (eqb x y) (has x l) h)
+has_in x (y ∷ l) h = ⊎_elim (λ e. inl (eqb-true x y e)) (λ e. inr (has_in x l e)) (or_cases (eqb x y) (has x l) h)
 
 pub in_has : (x : ℕ) (l : List ℕ) → In x l → has x l ≡ true
 unfolding has
@@ -32,9 +32,9 @@ in_has x (y ∷ l) (inr m) = or_right (eqb x y) (has x l) (in_has x l m)
 -- who is in a list with one more
 pub has_cons : (x y : ℕ) (l : List ℕ) → has x (y ∷ l) ≡ true → (x ≡ y) ⊎ (has x l ≡ true)
 unfolding has
-has_cons x y l h = ⊎_elim (λ e. inl (eqb-true x y e)) (λ e. inr e) (or_true (eqb x y) (has x l) h)
+has_cons x y l h = ⊎_elim (λ e. inl (eqb-true x y e)) (λ e. inr e) (or_cases (eqb x y) (has x l) h)
 
 -- who is not
 pub not_cons : (x y : ℕ) (l : List ℕ) → has x (y ∷ l) ≡ false → (x ≡ y → ⊥) × (has x l ≡ false)
 unfolding has
-not_cons x y l h = let o = or_false (eqb x y) (has x l) h in (eqb-false x y o.0, o.1)
+not_cons x y l h = let o = or_parts (eqb x y) (has x l) h in (eqb-false x y o.0, o.1)

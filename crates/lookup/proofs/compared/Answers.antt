@@ -14,27 +14,24 @@ other c d =
     compared_other a.unit a.aux.now a.x a.i c.if-i-eq0.false c.if-unit-i.false d
 
 pub returns-then-i-eq0 : goal.returns-then-i-eq0
-returns-then-i-eq0 c = c.with_index.ensures ∙ compared_none _ _ _ _ c.if-i-eq0.true
+returns-then-i-eq0 c = compared_none _ _ _ _ c.if-i-eq0.true
 
 pub returns-then-unit-i : goal.returns-then-unit-i
-returns-then-unit-i c = c.with_refusal.ensures ∙ compared_above _ _ _ _ c.if-unit-i.true
+returns-then-unit-i c = compared_above _ _ _ _ c.if-unit-i.true
 
 pub returns-then-held_row-row : goal.returns-then-held_row-row
 returns-then-held_row-row c =
     let a = c.args in
-    c.with_index-then-held_row-row.ensures
-    ∙ other (goal.at.returns-then-held_row-row c).Else-unit-i (λ q. c.if-held_row-row.true (c.low-held_row.ensures ∙ word_row a.unit a.x a.row c.requires.known.0 c.requires.known.1 c.requires.row.0 c.requires.row.1 _ q))
+    other (goal.at.returns-then-held_row-row c).Else-unit-i (λ q. c.if-held_row-row.true (c.low-held_row.ensures ∙ word_row a.unit a.x a.row c.requires.known.0 c.requires.known.1 c.requires.row.0 c.requires.row.1 _ q))
 
 pub returns-then-held_rest-rest : goal.returns-then-held_rest-rest
 returns-then-held_rest-rest c =
     let a = c.args in
-    c.with_index-then-held_rest-rest.ensures
-    ∙ other (goal.at.returns-then-held_rest-rest c).Else-unit-i (λ q. c.if-held_rest-rest.true (word_rest a.unit a.x a.row c.requires.known.0 c.requires.known.1 c.requires.row.0 c.requires.row.1 _ q ∙ sym c.pack-rest.ensures))
+    other (goal.at.returns-then-held_rest-rest c).Else-unit-i (λ q. c.if-held_rest-rest.true (word_rest a.unit a.x a.row c.requires.known.0 c.requires.known.1 c.requires.row.0 c.requires.row.1 _ q ∙ sym c.pack-rest.ensures))
 
 pub returns : goal.returns
 returns c =
     let a = c.args in
-    c.with_index-2.ensures
-    ∙ compared_same a.unit a.aux.now a.x a.i c.if-i-eq0.false c.if-unit-i.false
+    compared_same a.unit a.aux.now a.x a.i c.if-i-eq0.false c.if-unit-i.false
     (word_same a.unit a.x a.row c.requires.known.0 c.requires.known.1 c.requires.row.0 c.requires.row.1 _
     (sym c.low-held_row.ensures ∙ c.if-held_row-row.false) (c.if-held_rest-rest.false ∙ c.pack-rest.ensures))

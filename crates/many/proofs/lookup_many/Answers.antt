@@ -1,5 +1,8 @@
 use native.Mathlib.Omega.{arith}
-use mathlib.Core.Path.{◌≡◌, refl, sym, ◌∙◌}
+use mathlib.Core.Path.{◌≡◌, refl, sym, ap, ◌∙◌}
+use Rattle.std.proofs.Common.{Err}
+use Rattle.refusal.specs.declared.Refused.{Refused}
+use Rattle.many.specs.Lookups.{told}
 use mathlib.Core.Bool.{true, false}
 use Rattle.record.specs.Tables.{lent}
 use Rattle.record.specs.Formed.{well_formed}
@@ -8,7 +11,8 @@ use Rattle.vectors.specs.Masks.{number_by}
 use Rattle.record.specs.Inner.Formed.{WellFormed}
 use Rattle.record.proofs.Formed.{well_formed_facts}
 use Rattle.lookup.proofs.Lookups.{lookup_unformed}
-use Rattle.many.specs.Inner.Images.{image_masks}
+use Rattle.std.proofs.Common.{ℕ, ◌+◌, ◌/◌, ◌%◌, min}
+use Rattle.many.specs.Inner.Images.{byte_bits, key_bytes, image_masks}
 use Rattle.many.proofs.Linear.{number_linear}
 use Rattle.many.proofs.Masking.{image_masks_lem}
 use Rattle.many.proofs.Answers.{frame_room}
@@ -24,7 +28,7 @@ facts : (c : Else-not-well_formed) → WellFormed c.args.unit (lent c.args.h.now
 facts c = well_formed_facts c.args.unit _ (formed c)
 
 pub returns-then-indices-keys : goal.returns-then-indices-keys
-returns-then-indices-keys c = many_short _ _ _ _ c.refused.ensures c.if-indices-keys.true
+returns-then-indices-keys c = many_short _ _ _ _ (ap (λ (r : Refused). told (Err r)) c.at.ensures) c.if-indices-keys.true
 
 pub returns-then-not-well_formed : goal.returns-then-not-well_formed
 returns-then-not-well_formed c =
@@ -40,16 +44,17 @@ framed-frame-requires c = (facts c).bounds
 pub images-images-requires : goal.images-images-requires
 images-images-requires c = let f = facts (goal.at.images-images-requires c).Else-not-well_formed in (f.bounds, f.inputs)
 
-pub overflow_add-unit : goal.overflow_add-unit
-overflow_add-unit c = omega (arith, (facts (goal.at.overflow_add-unit c).Else-not-well_formed).bounds.inputs)
+-- the bytes of a key
+bytes : (n r : ℕ) → r ≡ n / byte_bits + min 1 (n % byte_bits) → r ≡ key_bytes n
+bytes n r e = omega arith
 
 pub fill-requires : goal.fill-requires
 fill-requires c =
-    (search rules, omega (arith, (facts (goal.at.fill-requires c).Else-not-well_formed).bounds.inputs), refl)
+    (search rules, omega (arith, c.div_ceil.ensures, (facts (goal.at.fill-requires c).Else-not-well_formed).bounds.inputs), refl)
 
-pub all-requires : goal.all-requires
-all-requires c =
-    frame_room c.args.unit (lent c.args.h.now c.args.g.now c.args.aux.now) _ _ _ _ (facts (goal.at.all-requires c).Else-not-well_formed) c.framed-frame.ensures c.fill.auto.tables c.if-indices-keys.false
+pub invariant_of-open : goal.invariant_of-open
+invariant_of-open c =
+    record { room = frame_room c.args.unit (lent c.args.h.now c.args.g.now c.args.aux.now) _ _ (facts (goal.at.invariant_of-open c).Else-not-well_formed) c.framed-frame.ensures c.fill.auto.tables }
 
 pub returns : goal.returns
 returns c =
@@ -60,7 +65,7 @@ returns c =
     (record {
       frame = o;
       formed = formed f;
-      tabled = c.fill.ensures (number_by (image_masks u)) (number_linear (image_masks u)) c.images-images.ensures;
+      tabled = rw (bytes u.n _ c.div_ceil.ensures) at (c.fill.ensures (number_by (image_masks u)) (number_linear (image_masks u)) c.images-images.ensures);
       image = image_masks_lem u (facts f).bounds (facts f).inputs o.kinds;
     })
     ∙ many_by (lookup_of u (lent c.args.h.now c.args.g.now c.args.aux.now)) _ _ c.if-indices-keys.false

@@ -78,12 +78,11 @@ pub record Fits (f : Frame) (h g : ℕ) : Type 0 where
   pub rows_held : f.rows < h
   pub cells_held : f.cells ≤ g
 
--- so are AUX and the tables of images, and there is a word for the index of each key
-pub record Room (f : Frame) (images h g aux keys indices : ℕ) : Type 0 where
+-- so are AUX and the tables of images
+pub record Room (f : Frame) (images h g aux : ℕ) : Type 0 where
   pub images_held : images ≡ table_words
   pub fits : Fits f h g
   pub words_held : f.k < aux
-  pub indices_held : keys ≤ indices
 
 -- a unit that is well formed, with its tables of images
 pub record Opened (u : Record) (t : Tables) (f : Frame) (images : List ℕ) : Type 0 where

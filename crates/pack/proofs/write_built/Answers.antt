@@ -1,14 +1,19 @@
-use mathlib.Core.Path.{ap, ◌∙◌}
-use Rattle.record.specs.Tables.{lent}
-use Rattle.pack.specs.Pack.{filed}
-use Rattle.pack.proofs.Packs.{built_accepted, built_refused}
-use borrow.Author.Rules.{rules}
+use mathlib.Core.Path.{sym, ap, ◌∙◌}
+use Rattle.std.specs.Prelude.{Result}
+use Rattle.refusal.specs.declared.Refused.{Refused}
+use Rattle.record.specs.declared.Record.{Record}
+use Rattle.record.specs.Tables.{Tables, lent}
+use Rattle.build.specs.Built.{told}
+use Rattle.pack.specs.Pack.{pack_built}
+use Rattle.pack.proofs.Packs.{unit_packed, refusal_packed}
 use Rattle.pack.proofs.write_built.Goals as goal
 
-pub returns-then-built-eq0 : goal.returns-then-built-eq0
-returns-then-built-eq0 c =
-    ap filed c.write-written.ensures ∙ built_accepted c.args.built (lent c.args.h.now c.args.g.now c.args.aux.now) c.args.out.now (search rules)
+pub returns-in-Ok : goal.returns-in-Ok
+returns-in-Ok c =
+    let t : Tables = lent c.args.h.now c.args.g.now c.args.aux.now in
+    unit_packed t c.args.out.now c.in-Ok.unit c.write.result _ _ c.unwrap_or.ensures c.write.ensures
+    ∙ ap (λ (b : Result Record Refused). pack_built (told b) t c.args.out.now) (sym c.in-Ok.is)
 
-pub returns : goal.returns
-returns c =
-    c.refused.ensures ∙ built_refused c.args.built (lent c.args.h.now c.args.g.now c.args.aux.now) c.args.out.now (search rules)
+pub returns-in-Err : goal.returns-in-Err
+returns-in-Err c =
+    rw c.in-Err.is (c.refused.ensures ∙ refusal_packed (lent c.args.h.now c.args.g.now c.args.aux.now) c.args.out.now c.in-Err.refused)

@@ -1,6 +1,7 @@
 -- Decimal digits: a number below 10 has one, a larger one has those of a tenth of it and one more. Assumes nothing.
 use Prim.Native.Nat.{ℕ, zero, suc, ◌+◌, ◌*◌, ◌/◌, ◌%◌, ◌^◌, ◌≤◌, ◌<◌}
 use native.Mathlib.Omega.{arith}
+use Rattle.std.specs.Prelude.{max}
 use native.Mathlib.Nat.{pow-suc}
 use mathlib.Core.Path.{◌≡◌, refl, sym, ap, ◌∙◌}
 use mathlib.Core.Bool.{Bool, true, false}
@@ -60,6 +61,23 @@ length_below (suc d) n h = go (ltb n 10) refl (λ l. length_below d (n / 10) (le
     go : (t : Bool) → ltb n 10 ≡ t → (9 < n → length (decimal (n / 10)) ≤ suc d) → length (decimal n) ≤ suc (suc d)
     go true t r = omega (arith, length_one n (ltb-true n 10 t))
     go false t r = let l : 9 < n = omega (arith, ltb-false n 10 t) in omega (arith, length_more n l, r l)
+
+ten_pos : (d : ℕ) → 0 < 10 ^ d
+ten_pos zero = omega arith
+ten_pos (suc d) = rw pow-suc (omega (arith, ten_pos d))
+
+-- a number from 10^d up to 10^(d + 1) has d + 1 digits
+length_log : (d n : ℕ) → 10 ^ d ≤ n → n < 10 * 10 ^ d → length (decimal n) ≡ d + 1
+length_log zero n h k = length_one n (omega arith)
+length_log (suc d) n h k =
+    let b : 10 ^ d * 10 ≤ n = rw pow-suc at h in
+    let a : n < 10 * (10 ^ d * 10) = rw pow-suc at k in
+    omega (arith, length_more n (omega (arith, ten_pos d)), length_log d (n / 10) (omega arith) (omega arith))
+
+-- 0 has one, as 1 has
+pub length_most : (n d : ℕ) → 10 ^ d ≤ max n 1 → max n 1 < 10 * 10 ^ d → length (decimal n) ≡ d + 1
+length_most zero d h k = length_one 0 (omega arith) ∙ sym (length_one 1 (omega arith)) ∙ length_log d 1 h k
+length_most (suc n) d h k = let e : max (suc n) 1 ≡ suc n = omega arith in length_log d (suc n) (rw e at h) (rw e at k)
 
 -- a word has at most 20
 pub length_word : (n : ℕ) → n < 2 ^ 64 → length (decimal n) ≤ 20

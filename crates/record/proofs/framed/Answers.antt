@@ -1,25 +1,24 @@
-use mathlib.Core.Path.{◌≡◌, sym, ◌∙◌}
-use mathlib.Core.Bool.{true}
-use Rattle.record.specs.Formed.{is_in_bounds, framed_by}
-use Rattle.record.proofs.Formed.{in_bounds}
+use Rattle.std.proofs.Common.{◌≡◌, Bool, ◌&&◌, sym, ap, ap₂, ◌∙◌}
+use Rattle.record.specs.Tables.{lent}
+use Rattle.record.specs.Formed.{is_in_bounds, right_kept, long_enough, framed_by}
 use Rattle.record.proofs.framed.Goals as goal
-use Rattle.record.proofs.framed.Goals.{Else-not-in_bounds}
+use Rattle.record.proofs.framed.Goals.{After-in_bounds, Joined-in_bounds, then-in_bounds, else-in_bounds}
 
-bounds : (c : Else-not-in_bounds) → is_in_bounds c.args.unit ≡ true
-bounds c = sym c.in_bounds.ensures ∙ c.if-not-in_bounds.false
+kept : (c : Joined-in_bounds) → c.if-in_bounds.value ≡ (is_in_bounds c.args.unit && right_kept c.args.unit)
+kept c =
+    let b = c.in_bounds.ensures in
+    elim c.if-in_bounds.branch [
+      | then-in_bounds w ↦ w.value-is ∙ ap₂ ◌&&◌ (sym w.if-in_bounds.true ∙ b) w.right_kept.ensures
+      | else-in_bounds w ↦ w.value-is ∙ w.if-in_bounds.false ∙ ap (λ (a : Bool). a && right_kept c.args.unit) (sym w.if-in_bounds.false ∙ b)
+    ]
 
-pub returns-then-not-in_bounds : goal.returns-then-not-in_bounds
+pub returns-then-right_kept : goal.returns-then-right_kept
 unfolding framed_by
-returns-then-not-in_bounds c = rw (sym c.in_bounds.ensures ∙ c.if-not-in_bounds.true)
+returns-then-right_kept c = ap₂ ◌&&◌ (sym c.if-right_kept.true ∙ kept (goal.at.returns-then-right_kept c).Joined-in_bounds) c.long_enough.ensures
 
-pub right_kept-requires : goal.right_kept-requires
-right_kept-requires c = in_bounds c.args.unit (bounds c)
-
-pub returns-then-not-right_kept : goal.returns-then-not-right_kept
+pub returns-else-right_kept : goal.returns-else-right_kept
 unfolding framed_by
-returns-then-not-right_kept c = rw (bounds (goal.at.returns-then-not-right_kept c).Else-not-in_bounds, sym c.right_kept.ensures ∙ c.if-not-right_kept.true)
-
-pub returns : goal.returns
-unfolding framed_by
-returns c =
-    rw (bounds (goal.at.returns c).Else-not-in_bounds, sym c.right_kept.ensures ∙ c.if-not-right_kept.false) c.long_enough.ensures
+returns-else-right_kept c =
+    let a = c.args in
+    c.if-right_kept.false
+    ∙ ap (λ (b : Bool). b && long_enough a.unit (lent a.h.now a.g.now a.aux.now)) (sym c.if-right_kept.false ∙ kept (goal.at.returns-else-right_kept c).Joined-in_bounds)

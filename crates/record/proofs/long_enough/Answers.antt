@@ -1,31 +1,31 @@
-use borrow.Author.Tests.{le-leb, lt-leb}
-use Prim.Native.Nat.{◌*◌, ◌%◌, ◌^◌, ◌≤◌}
-use native.Mathlib.Omega.{arith}
-use mathlib.Core.Path.{◌≡◌, ◌∙◌}
+use Rattle.std.proofs.Common.{◌≡◌, ◌*◌, ◌%◌, ◌^◌, Bool, ◌&&◌, leb, ltb, length, arith, sym, ap, ◌∙◌}
 use native.Mathlib.Nat.{one-mul}
-use lib.ListN.{length}
+use borrow.Author.Tests.{le-ltb, lt-leb}
 use lib.Pow.{shl_exact, pow_mono}
 use Rattle.vectors.specs.Bounds.{max_inputs}
 use Rattle.record.proofs.long_enough.Goals as goal
-use Rattle.record.proofs.long_enough.Goals.{Else-unit-ge-MAX_INPUTS}
+use Rattle.record.proofs.long_enough.Goals.{Joined-unit-lt-MAX_INPUTS, then-unit-lt-MAX_INPUTS, else-unit-lt-MAX_INPUTS, then-unit-h, else-unit-h}
 
--- the number of rows
-rows : (c : Else-unit-ge-MAX_INPUTS) → 1 * 2 ^ c.args.unit.n1 % 2 ^ max_inputs ≡ 2 ^ c.args.unit.n1
-rows c = shl_exact {a = 1} 1 c.args.unit.n1 max_inputs (omega arith) (omega (arith, c.if-unit-ge-MAX_INPUTS.false)) ∙ one-mul (2 ^ c.args.unit.n1)
+-- the rows
+rows : (c : Joined-unit-lt-MAX_INPUTS) → c.if-unit-lt-MAX_INPUTS.value ≡ leb (2 ^ c.args.unit.n1) (length c.args.h.now)
+rows c =
+    let n1 = c.args.unit.n1 in
+    elim c.if-unit-lt-MAX_INPUTS.branch [
+      | then-unit-lt-MAX_INPUTS w ↦
+          let e : 1 * 2 ^ n1 % 2 ^ max_inputs ≡ 2 ^ n1 = shl_exact {a = 1} 1 n1 max_inputs (omega arith) (omega (arith, w.if-unit-lt-MAX_INPUTS.true)) ∙ one-mul (2 ^ n1) in
+          w.value-is ∙ rw e
+      | else-unit-lt-MAX_INPUTS w ↦
+          let m = pow_mono {i = max_inputs} {j = n1} w.if-unit-lt-MAX_INPUTS.false in
+          w.value-is ∙ le-ltb _ _ w.if-unit-lt-MAX_INPUTS.false ∙ sym (lt-leb (2 ^ n1) (length c.args.h.now) (omega (arith, m, c.well_formed.1.0)))
+    ]
 
-many : (c : Else-unit-ge-MAX_INPUTS) → 1 * 2 ^ c.args.unit.n1 % 2 ^ max_inputs ≤ length c.args.h.now → 2 ^ c.args.unit.n1 ≤ length c.args.h.now
-many c h = omega (arith, rows c)
-
-pub returns-then-unit-ge-MAX_INPUTS : goal.returns-then-unit-ge-MAX_INPUTS
-returns-then-unit-ge-MAX_INPUTS c =
-    let m : 2 ^ max_inputs ≤ 2 ^ c.args.unit.n1 = pow_mono {i = max_inputs} {j = c.args.unit.n1} c.if-unit-ge-MAX_INPUTS.true in
-    rw (lt-leb (2 ^ c.args.unit.n1) (length c.args.h.now) (omega (arith, c.well_formed.1.0)))
-
-pub returns-then-h-unit : goal.returns-then-h-unit
-returns-then-h-unit c = rw (lt-leb (2 ^ c.args.unit.n1) (length c.args.h.now) (omega (arith, rows (goal.at.returns-then-h-unit c).Else-unit-ge-MAX_INPUTS, c.if-h-unit.true)))
-
-pub returns-then-g-unit : goal.returns-then-g-unit
-returns-then-g-unit c = rw (le-leb _ _ (many (goal.at.returns-then-g-unit c).Else-unit-ge-MAX_INPUTS c.if-h-unit.false), lt-leb _ _ c.if-g-unit.true)
-
-pub returns : goal.returns
-returns c = rw (le-leb _ _ (many (goal.at.returns c).Else-unit-ge-MAX_INPUTS c.if-h-unit.false), le-leb _ _ c.if-g-unit.false)
+pub returns-else-unit-g : goal.returns-else-unit-g
+returns-else-unit-g c =
+    let a = c.args in
+    let first = rows (goal.at.returns-else-unit-g c).Joined-unit-lt-MAX_INPUTS in
+    let cells : Bool = leb a.unit.cells (length a.g.now) in
+    let second : c.if-unit-h.value ≡ (leb (2 ^ a.unit.n1) (length a.h.now) && cells) = elim c.if-unit-h.branch [
+      | then-unit-h w ↦ w.value-is ∙ ap (λ (b : Bool). b && cells) (sym w.if-unit-h.true ∙ first)
+      | else-unit-h w ↦ w.value-is ∙ w.if-unit-h.false ∙ ap (λ (b : Bool). b && cells) (sym w.if-unit-h.false ∙ first)
+    ] in
+    c.if-unit-g.false ∙ ap (λ (b : Bool). b && ltb a.unit.k (length a.aux.now)) (sym c.if-unit-g.false ∙ second)

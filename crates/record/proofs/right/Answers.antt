@@ -1,23 +1,26 @@
-use native.Mathlib.Omega.{arith}
-use mathlib.Core.Path.{◌≡◌, sym, ◌∙◌}
-use mathlib.Core.Bool.{true}
-use Rattle.record.specs.Formed.{is_in_bounds}
-use Rattle.record.proofs.Formed.{in_bounds}
+use Rattle.std.proofs.Common.{sym, ◌∙◌}
+use borrow.Author.Tests.{eqb-true, eqb-false}
+use Rattle.record.proofs.Formed.{none_is}
 use Rattle.record.proofs.Soundness.{right_unbound, right_faulty, right_free}
 use Rattle.record.proofs.right.Goals as goal
-use Rattle.record.proofs.right.Goals.{Else-not-in_bounds}
+use Rattle.record.proofs.right.Goals.{then-in_bounds, else-in_bounds}
 
-bounds : (c : Else-not-in_bounds) → is_in_bounds c.args.unit ≡ true
-bounds c = sym c.in_bounds.ensures ∙ c.if-not-in_bounds.false
+pub returns-then-is_none : goal.returns-then-is_none
+returns-then-is_none c =
+    let b = c.in_bounds.ensures in
+    elim c.if-in_bounds.branch [
+      | then-in_bounds w ↦
+          let z = eqb-true _ _ (sym (none_is _ _ w.is_none.ensures) ∙ sym w.value-is ∙ c.if-is_none.true) in
+          none_is _ _ c.is_none-then-is_none.ensures ∙ right_free _ (sym b ∙ w.if-in_bounds.true) _ _ w.first_faulty.ensures z c.first_dependent.ensures
+      | else-in_bounds w ↦ cc
+    ]
 
-pub returns-then-not-in_bounds : goal.returns-then-not-in_bounds
-returns-then-not-in_bounds c = sym (right_unbound _ (sym c.in_bounds.ensures ∙ c.if-not-in_bounds.true))
-
-pub overflow_cast-unit : goal.overflow_cast-unit
-overflow_cast-unit c = omega (arith, (in_bounds c.args.unit (bounds (goal.at.overflow_cast-unit c).Else-not-in_bounds)).inputs)
-
-pub returns-then-first_faulty-ne0 : goal.returns-then-first_faulty-ne0
-returns-then-first_faulty-ne0 c = sym (right_faulty _ (bounds (goal.at.returns-then-first_faulty-ne0 c).Else-not-in_bounds) _ c.first_faulty.ensures c.if-first_faulty-ne0.true)
-
-pub returns : goal.returns
-returns c = right_free _ (bounds (goal.at.returns c).Else-not-in_bounds) _ _ c.first_faulty.ensures c.if-first_faulty-ne0.false c.first_dependent.ensures
+pub returns-else-is_none : goal.returns-else-is_none
+returns-else-is_none c =
+    let b = c.in_bounds.ensures in
+    elim c.if-in_bounds.branch [
+      | then-in_bounds w ↦
+          let n = eqb-false _ _ (sym (none_is _ _ w.is_none.ensures) ∙ sym w.value-is ∙ c.if-is_none.false) in
+          c.if-is_none.false ∙ sym (right_faulty _ (sym b ∙ w.if-in_bounds.true) _ w.first_faulty.ensures n)
+      | else-in_bounds w ↦ c.if-is_none.false ∙ sym (right_unbound _ (sym b ∙ w.if-in_bounds.false))
+    ]

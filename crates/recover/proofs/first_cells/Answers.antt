@@ -1,19 +1,10 @@
-use native.Mathlib.Omega.{arith}
+use Rattle.std.proofs.Common.{arith}
 use Rattle.vectors.specs.Bounds.{max_words}
 use Rattle.recover.proofs.Firsts.{marking_none, marking_more, marking_past, marking_end}
 use Rattle.recover.proofs.first_cells.Goals as goal
 
 pub loop-c-init : goal.loop-c-init
 loop-c-init c = marking_none _ max_words
-
-pub overflow_cast-number : goal.overflow_cast-number
-overflow_cast-number c = omega (arith, c.loop-c.invariant.within)
-
-pub offset_bounds-g-c : goal.offset_bounds-g-c
-offset_bounds-g-c c = omega (arith, c.loop-c.invariant.within)
-
-pub bounds-g-c : goal.bounds-g-c
-bounds-g-c c = omega (arith, c.loop-c.invariant.within)
 
 pub loop-c-preserved-then-i-lt-MAX_WORDS : goal.loop-c-preserved-then-i-lt-MAX_WORDS
 loop-c-preserved-then-i-lt-MAX_WORDS c =

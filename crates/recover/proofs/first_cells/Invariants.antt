@@ -4,6 +4,3 @@ use Rattle.recover.proofs.first_cells.Given as goal
 
 abbrev pub invariant-loop-c : goal.invariant-loop-c
 invariant-loop-c l = Marking l.g max_words l.firsts l.c
-
-abbrev pub decreases-loop-c : goal.decreases-loop-c
-decreases-loop-c l = l.c

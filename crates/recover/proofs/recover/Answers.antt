@@ -3,7 +3,6 @@ use mathlib.Core.Bool.{true, false}
 use Rattle.vectors.specs.Bounds.{outside}
 use Rattle.record.specs.Tables.{Tables, lent}
 use Rattle.record.specs.Formed.{well_formed}
-use Rattle.record.proofs.Formed.{inside}
 use Rattle.recover.proofs.Recovery.{recover_unformed, recover_outside, recover_from}
 use Rattle.recover.proofs.recover.Goals as goal
 use Rattle.recover.proofs.recover.Goals.{Else-not-well_formed, Else-outside, Start}
@@ -18,19 +17,11 @@ number_in : (c : Else-outside) → let a = c.args in outside 1 a.unit.k a.i ≡ 
 number_in c = sym c.outside.ensures ∙ c.if-outside.false
 
 pub returns-then-not-well_formed : goal.returns-then-not-well_formed
-returns-then-not-well_formed c = c.with_refusal.ensures ∙ recover_unformed _ _ _ (sym c.well_formed-2.ensures ∙ c.if-not-well_formed.true)
+returns-then-not-well_formed c = recover_unformed _ _ _ (sym c.well_formed-2.ensures ∙ c.if-not-well_formed.true)
 
 pub returns-then-outside : goal.returns-then-outside
 returns-then-outside c =
-    c.with_refusal-then-outside.ensures ∙ recover_outside _ _ _ (formed (goal.at.returns-then-outside c).Else-not-well_formed) (sym c.outside.ensures ∙ c.if-outside.true)
-
-pub numbered-requires : goal.numbered-requires
-numbered-requires c =
-    let a = c.args in
-    record {
-      formed = formed (goal.at.numbered-requires c).Else-not-well_formed;
-      inside = (inside 1 a.unit.k a.i (number_in c)).1;
-    }
+    recover_outside _ _ _ (formed (goal.at.returns-then-outside c).Else-not-well_formed) (sym c.outside.ensures ∙ c.if-outside.true)
 
 pub returns : goal.returns
 returns c =

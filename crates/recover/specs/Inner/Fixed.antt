@@ -1,18 +1,16 @@
 -- The vector that a word and a column fix, as an answer.
-use Rattle.std.specs.Prelude.{ℕ, ◌+◌, ◌-◌, ◌^◌, true, false, ◌&&◌, ltb}
+use Rattle.std.specs.Prelude.{ℕ, ◌+◌, ◌-◌, ◌^◌, Option, None, Some, true, false, ◌&&◌, ltb}
 use Rattle.span.specs.Span.{sound_of}
-use Rattle.span.specs.declared.Found.{Found}
-use Rattle.span.specs.declared.Found.TheVariants.{Vector, Nothing}
 use Rattle.span.specs.Fixed.{vector_of}
 use Rattle.record.specs.declared.Record.{Record}
-use Rattle.recover.specs.declared.Recovered.{Recovered}
+use Rattle.recover.specs.Recover.{Recovered}
 use Rattle.record.specs.Record.{kinds_in}
 use Rattle.recover.specs.Recover.{recovered, not_recovered}
 
 -- the answer with what is found
-abbrev pub answered : Found → Recovered
-answered (Vector x) = recovered x
-answered Nothing = not_recovered 14
+abbrev pub answered : Option ℕ → Recovered
+answered (Some x) = recovered x
+answered None = not_recovered 14
 
 -- the vector that the word and the column fix
 unfoldable pub vector_in : Record → ℕ → ℕ → Recovered

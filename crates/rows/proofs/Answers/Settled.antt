@@ -4,10 +4,8 @@ use mathlib.Core.Path.{◌≡◌, refl, sym, ap, ◌∙◌}
 use mathlib.Core.List.{List}
 use Rattle.rows.specs.Place.{Placing}
 use Rattle.rows.specs.Allowance.{end_within}
-use Rattle.rows.specs.Answer.{Left, left, settle}
-use Rattle.rows.specs.declared.End.{End}
-use Rattle.rows.specs.declared.End.TheVariants.{All, NoFit, Over, Unfit}
-use Rattle.rows.specs.declared.Placed.{Placed}
+use Rattle.rows.specs.Answer.{Left, left, settle, Placed}
+use Rattle.rows.specs.End.{End, All, NoFit, Over, Unfit}
 
 module _ (a : ℕ) (P : Placing) (h g : List ℕ) where
   pub settle_all : end_within a P ≡ All → settle a P h g ≡ left (record { end = All; tries = P.state.tries }) P.state.h P.state.g

@@ -9,14 +9,12 @@ use borrow.Author.Tests.{eq-eqb}
 use Rattle.lists.specs.Members.{All}
 use Rattle.vectors.specs.Bounds.{max_cells, max_words, max_rows}
 use Rattle.rows.specs.Care.{Care, cares_by, keep, in_row}
-use Rattle.rows.specs.Fit.{first_fit}
+use Rattle.rows.specs.Fit.{first_fit, At, None}
 use Rattle.rows.specs.Answer.{cares_from, cares_in, astray, unfit}
 use Rattle.rows.specs.Single.{column_word, single_fit}
-use Rattle.rows.specs.Inner.Chains.{Mark, mark_bit, head_of, chain, LinkedIs}
-use Rattle.rows.specs.declared.Fit.TheVariants.{At, None}
+use Rattle.rows.specs.Inner.Chains.{Mark, mark_bit, chain, LinkedIs}
 use Rattle.rows.proofs.Fits.First.{first_empty}
 use Rattle.rows.proofs.Fits.Columns.{same_fit}
-use Rattle.rows.proofs.Chains.Steps.{head_some}
 use Rattle.rows.proofs.Answers.Unfit.{astray_none, astray_more, fit_is}
 
 -- ---- the answer by the tests
@@ -31,19 +29,10 @@ module _ (words g : List ℕ) where
   single_fit_lem e = rw (e, single_fit)
 
 -- a row with no vector fits at once
-pub single_none : (words g : List ℕ) → unfit words 1 (length g) 0 ≡ false → length words ≡ 1 → At 0 ≡ single_fit words g
-unfolding cares_in cares_by
-single_none [] g e l = absurd (omega arith)
-single_none (w ∷ []) g e l = sym (first_empty g) ∙ single_fit_lem (w ∷ []) g e
-single_none (w ∷ v ∷ words) g e l = absurd (omega arith)
+pub single_empty : (words g : List ℕ) → unfit words 1 (length g) 0 ≡ false → cares_in words ≡ [] → At 0 ≡ single_fit words g
+single_empty words g e n = sym (first_empty g) ∙ ap (first_fit g) (sym n) ∙ single_fit_lem words g e
 
 -- ---- the chain
-
-some_vector : (words : List ℕ) → 1 < length words → cares_in words ≡ [] → ⊥
-unfolding cares_in cares_by
-some_vector [] l e = omega arith
-some_vector (w ∷ []) l e = omega arith
-some_vector (w ∷ v ∷ words) l e = let z : ◌≡◌ {A = ℕ} 0 1 = cc in omega arith
 
 one_row : (cs : List Care) → All (λ c. c.row < 1) cs → in_row 0 cs ≡ cs
 unfolding in_row
@@ -52,24 +41,25 @@ one_row (c ∷ cs) a =
     let z : c.row ≡ 0 = omega (arith, a.0) in
     ap₂ (λ b l. keep b c l) (eq-eqb c.row 0 z) (one_row cs a.1)
 
--- the first vector of the row is one of the words, and the chain from it on is the row
-pub record Single (words ws : List ℕ) (first : ℕ) : Type 0 where
-  pub low : 0 < first
-  pub high : first < length ws
-  pub row_is : chain ws first ≡ cares_in words
+module _ (words ws h : List ℕ) (s : length h ≡ 1) (a : All (λ c. c.row < 1) (cares_in words)) (k : LinkedIs words ws h) where
+  row_is : in_row 0 (cares_in ws) ≡ cares_in words
+  row_is = ap (in_row 0) k.cares ∙ one_row (cares_in words) a
 
-pub single_chain : (words ws h : List ℕ) (first : ℕ) → 1 < length words → length h ≡ 1 → All (λ c. c.row < 1) (cares_in words) → LinkedIs words ws h
-    → first ≡ head_of (length ws) (get_or h 0 0) → Single words ws first
-single_chain words ws h first l s a k e = go (k.marked 0 (omega arith))
-  where
-    row_is : in_row 0 (cares_in ws) ≡ cares_in words
-    row_is = ap (in_row 0) k.cares ∙ one_row (cares_in words) a
+  -- the row has a mark, and the chain from its first vector on is the row
+  pub single_chain : (first : ℕ) → mark_bit < get_or h 0 0 → first ≡ get_or h 0 0 - mark_bit → chain ws first ≡ cares_in words
+  single_chain first l e = go (k.marked 0 (omega arith))
+    where
+      go : Mark 0 ws (in_row 0 (cares_in ws)) (get_or h 0 0) → chain ws first ≡ cares_in words
+      go (Mark.empty z n) = absurd (omega arith)
+      go (Mark.start b t c) = ap (chain ws) e ∙ c ∙ row_is
 
-    go : Mark 0 ws (in_row 0 (cares_in ws)) (get_or h 0 0) → Single words ws first
-    go (Mark.empty z n) = absurd (some_vector words l (sym row_is ∙ n))
-    go (Mark.start b t c) =
-        let q : first ≡ get_or h 0 0 - mark_bit = e ∙ head_some (length ws) (get_or h 0 0) (omega arith) in
-        record { low = omega arith; high = omega arith; row_is = ap (chain ws) q ∙ c ∙ row_is }
+  -- it has none
+  pub single_none : get_or h 0 0 ≤ mark_bit → cares_in words ≡ []
+  single_none l = go (k.marked 0 (omega arith))
+    where
+      go : Mark 0 ws (in_row 0 (cares_in ws)) (get_or h 0 0) → cares_in words ≡ []
+      go (Mark.empty z n) = sym row_is ∙ n
+      go (Mark.start b t c) = absurd (omega arith)
 
 -- ---- vectors by their columns
 

@@ -1,40 +1,31 @@
 -- What cannot be placed: the test of the words, and what is known where none fails. Assumes nothing.
 use Prim.Native.Nat.{ℕ, zero, suc, ◌+◌, ◌-◌, ◌%◌, ◌≤◌, ◌<◌}
-use native.Mathlib.Numerals.{add-one}
 use native.Mathlib.Omega.{arith}
-use mathlib.Core.Path.{◌≡◌, refl, ap, ◌∙◌}
-use mathlib.Core.Bool.{true, false}
+use mathlib.Core.Path.{◌≡◌, refl, sym, ap, ◌∙◌}
+use mathlib.Core.Bool.{Bool, true, false, ◌||◌}
 use mathlib.Core.List.{List, [], ◌∷◌}
 use lib.Dec.{leb}
-use lib.ListN.{length, get_or, drop, length-drop, drop_of_length-le}
-use lib.Seq.{drop-cons, get_or-drop}
-use borrow.Author.Tests.{eqb-false, ltb-false, leb-false, le-leb, lt-leb, ne_eqb, le-ltb}
+use Rattle.std.specs.List.{list_any}
+use Rattle.std.proofs.Math.Bool.{or_assoc}
+use lib.ListN.{length, get_or, drop, length-drop}
+use lib.Seq.{get_or-drop}
+use borrow.Author.Tests.{eqb-false, ltb-false, leb-false, lt-leb, ne_eqb, le-ltb}
 use Rattle.lists.proofs.Tests.{or_false}
 use Rattle.lists.specs.Members.{All}
 use Rattle.vectors.specs.Bounds.{max_cells, max_words, max_rows}
 use Rattle.rows.specs.Care.{cares_by}
 use Rattle.rows.specs.Answer.{cares_from, cares_in, cares_of, astray, unfit, left, settled, placed, max_places, row_in, owner_bit}
 use Rattle.rows.specs.Inner.Chains.{Packed}
-use Rattle.rows.specs.declared.End.TheVariants.{Unfit}
+use Rattle.rows.specs.End.{Unfit}
 
--- ---- the test, word by word
+-- ---- the test
 
-module _ (rows : ℕ) (ws : List ℕ) (i : ℕ) (l : i < length ws) where
-  pub astray_high : max_places ≤ get_or ws i 0 → astray rows (drop i ws) ≡ true
-  unfolding astray
-  astray_high h = rw (drop-cons ws i 0 l, le-leb max_places (get_or ws i 0) h)
-
-  pub astray_row : get_or ws i 0 < max_places → rows ≤ row_in (get_or ws i 0) → astray rows (drop i ws) ≡ true
-  unfolding astray
-  astray_row h r = rw (drop-cons ws i 0 l, lt-leb max_places (get_or ws i 0) h, le-leb rows (row_in (get_or ws i 0)) r)
-
-  pub astray_on : get_or ws i 0 < max_places → row_in (get_or ws i 0) < rows → astray rows (drop i ws) ≡ astray rows (drop (i + 1) ws)
-  unfolding astray
-  astray_on h r = rw (drop-cons ws i 0 l, lt-leb max_places (get_or ws i 0) h, lt-leb rows (row_in (get_or ws i 0)) r, add-one)
-
-pub astray_end : (rows : ℕ) (ws : List ℕ) (i : ℕ) → length ws ≤ i → astray rows (drop i ws) ≡ false
+pub astray_any : (rows : ℕ) (ws : List ℕ) → astray rows ws ≡ list_any (λ w. leb max_places w || leb rows (row_in w)) ws
 unfolding astray
-astray_end rows ws i l = rw (drop_of_length-le ws {i = i} l)
+astray_any rows [] = refl
+astray_any rows (w ∷ ws) =
+    sym (or_assoc (leb max_places w) (leb rows (row_in w)) (astray rows ws))
+    ∙ ap (λ (b : Bool). (leb max_places w || leb rows (row_in w)) || b) (astray_any rows ws)
 
 -- ---- where none fails
 

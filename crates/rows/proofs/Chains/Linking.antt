@@ -12,8 +12,8 @@ use lib.Seq.{get_or-set_same, get_or-set_other, get_or-drop, drop-cons}
 use borrow.Author.Tests.{eqb-true, eqb-false, eq-eqb, ne_eqb}
 use Rattle.rows.specs.Care.{Care, cares_by, in_row}
 use Rattle.rows.specs.Answer.{care_of, cares_from, cares_in, max_places, row_in, column_in}
-use Rattle.rows.specs.Inner.Chains.{next_in, weight_in, Packed, chain, Rises, Weighs, weight_from, head_of, Mark, empty, start, LinkedIs, max_links, mark_bit}
-use Rattle.rows.proofs.Chains.Steps.{chain_end, chain_step, chain_length, chain_agree, weight_chain, head_none, head_some}
+use Rattle.rows.specs.Inner.Chains.{next_in, weight_in, Packed, chain, Rises, Weighs, Mark, empty, start, LinkedIs, max_links, mark_bit}
+use Rattle.rows.proofs.Chains.Steps.{weight_from, head_of, chain_end, chain_step, chain_length, chain_agree, weight_chain, head_none, head_some}
 use Rattle.rows.proofs.Chains.Unlinking.{unlinked_is}
 
 -- ---- a word with its link and its weight
@@ -201,6 +201,13 @@ module _ (ws₀ : List ℕ) (rows : ℕ) (packed : Packed ws₀ rows) where
 
     pub at_word : get_or ws i 0 < max_places
     at_word = rw (go.low i (omega arith)) (packed.words i p l)
+
+    pub at_first : mark_bit < get_or h (row_in (get_or ws i 0)) 0 → get_or h (row_in (get_or ws i 0)) 0 < mark_bit + length ws
+    at_first m = by (go.marks (row_in (get_or ws i 0)) at_row)
+      where
+        by : {c : List Care} → Mark i ws c (get_or h (row_in (get_or ws i 0)) 0) → get_or h (row_in (get_or ws i 0)) 0 < mark_bit + length ws
+        by (empty z e) = absurd (omega arith)
+        by (start b t e) = t
 
     pub at_link : (n : ℕ) → n ≡ head_of (length ws) (get_or h (row_in (get_or ws i 0)) 0) → n ≤ length ws
     at_link n e = rw e (mark_head (omega (arith, go.size)) (go.marks (row_in (get_or ws i 0)) at_row)).1

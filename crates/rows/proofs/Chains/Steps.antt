@@ -4,12 +4,23 @@ use native.Mathlib.Omega.{arith}
 use mathlib.Core.Path.{◌≡◌, refl, sym, ap, ◌∙◌}
 use mathlib.Core.Bool.{Bool, true, false}
 use mathlib.Core.List.{List, [], ◌∷◌}
-use lib.Dec.{ltb}
-use lib.ListN.{length, get_or}
+use lib.Dec.{ltb, leb}
+use lib.ListN.{length, get_or, take, drop, length-drop}
+use lib.Seq.{take_all, get_or-drop}
 use borrow.Author.Tests.{ltb-true, ltb-false, lt-ltb, le-ltb, le-leb, lt-leb}
 use Rattle.rows.specs.Care.{Care}
 use Rattle.rows.specs.Answer.{care_of}
-use Rattle.rows.specs.Inner.Chains.{next_in, weight_in, chain_in, chain, Rises, Weighs, weight_from, head_of, mark_bit}
+use Rattle.rows.specs.Inner.Chains.{next_in, weight_in, chain_in, chain, Rises, Weighs, mark_bit}
+
+-- ---- the words after the first, as the code takes them
+
+pub tail_is : (ws : List ℕ) → take (length ws - 1) (drop 1 ws) ≡ drop 1 ws
+tail_is ws = take_all (length ws - 1) (drop 1 ws) (omega (arith, length-drop 1 ws))
+
+pub tail_at : (ws : List ℕ) (i : ℕ) → get_or (take (length ws - 1) (drop 1 ws)) i 0 ≡ get_or ws (i + 1) 0
+tail_at ws i =
+    let n : 1 + i ≡ i + 1 = omega arith in
+    ap (λ (l : List ℕ). get_or l i 0) (tail_is ws) ∙ get_or-drop 1 ws i 0 ∙ ap (λ (j : ℕ). get_or ws j 0) n
 
 -- ---- a walk along the links
 
@@ -88,6 +99,10 @@ module _ (b : ℕ) (ws ws' : List ℕ) (rises : Rises b ws) (size : length ws' �
 
 -- ---- the weight at a vector
 
+-- how many vectors there are from j on, by the weight in its word; 0 past the end
+pub weight_from : List ℕ → ℕ → ℕ
+weight_from ws j = elim (ltb j (length ws)) [ true ↦ weight_in (get_or ws j 0) | false ↦ 0 ]
+
 pub weight_in_lem : (ws : List ℕ) (j : ℕ) → j < length ws → weight_from ws j ≡ weight_in (get_or ws j 0)
 unfolding weight_from
 weight_in_lem ws j l = rw (lt-ltb j (length ws) l, weight_from)
@@ -106,6 +121,10 @@ weight_chain b ws weighs j l = go (ltb j (length ws)) refl
 
 -- ---- the vector that a mark stands at
 
+-- past the end for a row that is placed or empty
+pub head_of : ℕ → ℕ → ℕ
+head_of end x = elim (leb x mark_bit) [ true ↦ end | false ↦ x - mark_bit ]
+
 pub head_none : (end x : ℕ) → x ≤ mark_bit → head_of end x ≡ end
 unfolding head_of
 head_none end x l = rw (le-leb x mark_bit l, head_of)
@@ -113,3 +132,20 @@ head_none end x l = rw (le-leb x mark_bit l, head_of)
 pub head_some : (end x : ℕ) → mark_bit < x → head_of end x ≡ x - mark_bit
 unfolding head_of
 head_some end x l = rw (lt-leb x mark_bit l, head_of)
+
+-- what the code adds to a word for a row of the mark x: the vector that it stands at and the weight there, or the end and 0
+pub record Met (ws : List ℕ) (x next later : ℕ) : Type 0 where
+  pub next_is : next ≡ head_of (length ws) x
+  pub later_is : later ≡ weight_from ws next
+
+pub weight_none : (ws : List ℕ) (x : ℕ) → x ≤ mark_bit → weight_from ws (head_of (length ws) x) ≡ 0
+weight_none ws x l = rw (head_none (length ws) x l) (weight_out ws (length ws) (omega arith))
+
+pub weight_some : (ws : List ℕ) (x : ℕ) → mark_bit < x → x - mark_bit < length ws → weight_from ws (head_of (length ws) x) ≡ weight_in (get_or ws (x - mark_bit) 0)
+weight_some ws x l h = rw (head_some (length ws) x l) (weight_in_lem ws (x - mark_bit) h)
+
+pub met_none : (ws : List ℕ) (x : ℕ) → x ≤ mark_bit → Met ws x (length ws) 0
+met_none ws x l = record { next_is = sym (head_none (length ws) x l); later_is = sym (weight_out ws (length ws) (omega arith)) }
+
+pub met_some : (ws : List ℕ) (x first v : ℕ) → mark_bit < x → first ≡ x - mark_bit → first < length ws → v ≡ weight_in (get_or ws first 0) → Met ws x first v
+met_some ws x first v l e h w = record { next_is = e ∙ sym (head_some (length ws) x l); later_is = w ∙ sym (weight_in_lem ws first h) }

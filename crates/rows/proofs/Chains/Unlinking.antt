@@ -1,16 +1,16 @@
 -- The links taken out of the words. Assumes nothing.
-use Prim.Native.Nat.{ℕ, zero, suc, ◌+◌, ◌%◌, ◌≤◌, ◌<◌}
+use Prim.Native.Nat.{ℕ, zero, suc, ◌-◌, ◌%◌, ◌≤◌, ◌<◌}
 use native.Mathlib.Omega.{arith}
-use mathlib.Core.Path.{◌≡◌, refl, sym, ap, ◌∙◌}
-use mathlib.Core.Bool.{Bool, true, false}
-use mathlib.Core.List.{List, [], ◌∷◌, map}
-use lib.Dec.{eqb}
-use lib.ListN.{length, get_or, set, length-set, length-map}
-use lib.Seq.{get_or-set_same, get_or-set_other, ext_get_or}
-use borrow.Author.Tests.{eqb-true, eqb-false}
+use mathlib.Core.Path.{◌≡◌, refl, ap, ◌∙◌}
+use mathlib.Core.List.{List, [], ◌∷◌, ◌++◌, map}
+use lib.ListN.{length, get_or, take, drop, length-map, drop_of_length-le}
+use lib.Seq.{ext_get_or, take_all, drop-length}
+use borrow.Rule.Slice.PartMut.{put_mid}
+use Rattle.std.proofs.Common.{append-nil}
 use Rattle.rows.specs.Care.{Care}
 use Rattle.rows.specs.Answer.{care_of, max_places}
 use Rattle.rows.specs.Inner.Chains.{Packed, unlinked}
+use Rattle.rows.proofs.Chains.Steps.{tail_is}
 
 unlinked_length : (ws : List ℕ) → length (unlinked ws) ≡ length ws
 unfolding unlinked
@@ -47,35 +47,16 @@ unlinked_is ws₀ ws rows packed size first cares = ext_get_or 0 (unlinked ws) w
         let p = packed.words (suc j) (omega arith) (omega (arith, unlinked_length ws)) in
         unlinked_at ws (suc j) (omega arith) ∙ omega arith
 
--- ---- the loop's state: the words 1 to i - 1 are unlinked
+-- ---- the end of the loop: n of the words after the first are unlinked, which are all
 
-pub record Unlinking (ws₀ ws : List ℕ) (i : ℕ) : Type 0 where
-  pub size : length ws ≡ length ws₀
-  pub low : 0 < i
-  pub done : (j : ℕ) → j < i → get_or ws j 0 ≡ get_or (unlinked ws₀) j 0
-  pub rest : (j : ℕ) → i ≤ j → get_or ws j 0 ≡ get_or ws₀ j 0
-
-pub unlinking_none : (ws : List ℕ) → Unlinking ws ws 1
-unlinking_none ws = record { size = refl; low = omega arith; done = by; rest = λ j l. refl }
-  where
-    by : (j : ℕ) → j < 1 → get_or ws j 0 ≡ get_or (unlinked ws) j 0
-    by zero l = sym (unlinked_first ws)
-    by (suc j) l = absurd (omega arith)
-
-pub unlinking_more : {ws₀ ws : List ℕ} {i : ℕ} → Unlinking ws₀ ws i → i < length ws → Unlinking ws₀ (set ws i (get_or ws i 0 % max_places)) (i + 1)
-unlinking_more {ws₀} {ws} {i} u h =
-    record {
-      size = length-set ws i _ ∙ u.size;
-      low = omega arith;
-      done = λ j l. by j l (eqb j i) refl;
-      rest = λ j l. get_or-set_other ws i j _ 0 (λ e. omega arith) ∙ u.rest j (omega arith);
-    }
-  where
-    by : (j : ℕ) → j < i + 1 → (t : Bool) → eqb j i ≡ t → get_or (set ws i (get_or ws i 0 % max_places)) j 0 ≡ get_or (unlinked ws₀) j 0
-    by j l true e =
-        rw (eqb-true j i e)
-        (get_or-set_same ws i _ 0 h ∙ ap (λ (w : ℕ). w % max_places) (u.rest i (omega arith)) ∙ sym (unlinked_at ws₀ i u.low))
-    by j l false e = let n = eqb-false j i e in get_or-set_other ws i j _ 0 n ∙ u.done j (omega arith)
-
-pub unlinking_end : {ws₀ ws : List ℕ} {i : ℕ} → Unlinking ws₀ ws i → length ws ≤ i → ws ≡ unlinked ws₀
-unlinking_end {ws₀} {ws} {i} u h = ext_get_or 0 ws (unlinked ws₀) (u.size ∙ sym (unlinked_length ws₀)) (λ j l. u.done j (omega arith))
+pub unlinking_end : (ws items : List ℕ) (n : ℕ) → 0 < length ws → length (take (length ws - 1) (drop 1 ws)) ≤ n
+    → items ≡ map (λ v. v % max_places) (take n (take (length ws - 1) (drop 1 ws))) ++ drop n (take (length ws - 1) (drop 1 ws))
+    → put_mid 1 (length ws - 1) ws items ≡ unlinked ws
+unfolding unlinked
+unlinking_end [] items n p l e = absurd (omega arith)
+unlinking_end (w ∷ ws) items n p l e =
+    let t = tail_is (w ∷ ws) in
+    let m : length ws ≤ n = rw t at l in
+    let i : items ≡ map (λ v. v % max_places) ws = rw (t, take_all n ws m, drop_of_length-le ws {i = n} m, append-nil) at e in
+    let k : suc (length ws) - 1 ≡ length ws = omega arith in
+    rw (k, drop-length, append-nil, i)

@@ -1,6 +1,6 @@
 -- The walks along a row's chain: a turn at the vector j, and the end. Assumes nothing.
 use Prim.Native.Nat.{ℕ, zero, suc, ◌+◌, ◌-◌, ◌/◌, ◌%◌, ◌^◌, max, ◌≤◌, ◌<◌}
-use native.Mathlib.Nat.{mod-lt, zero-div, zero-lt-suc}
+use native.Mathlib.Nat.{mod-lt, zero-lt-suc}
 use native.Mathlib.Omega.{arith}
 use mathlib.Core.Path.{◌≡◌, refl, sym, ap, ◌∙◌}
 use mathlib.Core.Bool.{Bool, true, false, ◌&&◌}
@@ -9,6 +9,8 @@ use lib.Bits.{bit_or}
 use lib.Dec.{ltb}
 use lib.ListN.{length, get_or, set}
 use borrow.Author.Tests.{ltb-true, ltb-false, lt-ltb, le-ltb}
+use Rattle.std.specs.Ordering.{ord_max, nat_cmp}
+use Rattle.std.proofs.lemmas.Grind.{common_steps}
 use Rattle.lists.proofs.Tests.{and_true, and_unit, and_assoc}
 use Rattle.vectors.specs.Bits.{bit}
 use Rattle.vectors.specs.Bounds.{max_rows}
@@ -21,6 +23,10 @@ use Rattle.rows.specs.Inner.Taken.{bit_in, shut_row}
 use Rattle.rows.proofs.Chains.Steps.{chain_end, chain_step}
 use Rattle.rows.proofs.Taken.Words.{ones_bit}
 
+-- what `max` answers
+pub larger : (a b : ℕ) → ord_max nat_cmp a b ≡ max a b
+larger a b = grind (arith, common_steps)
+
 max_assoc : (a b r : ℕ) → max (max a b) r ≡ max a (max b r)
 max_assoc a b r = omega arith
 
@@ -28,10 +34,6 @@ shut_low : (taken : List ℕ) (d : ℕ) (m : List Care) → shut_row taken d m �
 unfolding shut_row
 shut_low taken d [] = omega arith
 shut_low taken d (c ∷ m) = omega (arith, shut_low taken d m, mod-lt (get_or taken ((c.column + d) / 64) 0 / 2 ^ ((c.column + d) % 64)) (zero-lt-suc 1))
-
--- at first no bit is set
-pub shut_start : (taken : List ℕ) (d t : ℕ) (m : List Care) → max (bit 0 t) (shut_row taken d m) ≡ shut_row taken d m
-shut_start taken d t m = omega (arith, zero-div (2 ^ t))
 
 -- at the vector j, whose word has the column c and the next n
 module _ (ws : List ℕ) (rises : Rises 0 ws) (j : ℕ) (p : 0 < j) (l : j < length ws) (c n : ℕ) (ec : c ≡ column_in (get_or ws j 0)) (en : n ≡ next_in (get_or ws j 0)) where
@@ -46,15 +48,10 @@ module _ (ws : List ℕ) (rises : Rises 0 ws) (j : ℕ) (p : 0 < j) (l : j < len
   pub next_rises : j < n
   next_rises = rw en (rises j p l)
 
-  -- the largest column is this one
-  pub top_more : (t : ℕ) → t < c → top_from t (chain ws j) ≡ top_from c (chain ws n)
+  -- the largest column is this one or another
+  pub top_on : (t : ℕ) → top_from t (chain ws j) ≡ top_from (max t c) (chain ws n)
   unfolding top_from here
-  top_more t m = let e : max t c ≡ c = omega arith in rw step (ap (λ (u : ℕ). top_from u (chain ws n)) e)
-
-  -- the largest column is an earlier one
-  pub top_kept : (t : ℕ) → c ≤ t → top_from t (chain ws j) ≡ top_from t (chain ws n)
-  unfolding top_from here
-  top_kept t m = let e : max t c ≡ t = omega arith in rw step (ap (λ (u : ℕ). top_from u (chain ws n)) e)
+  top_on t = rw step
 
   -- the cell is below the number of cells, and so are those from the next on
   pub inside_on : (cells d : ℕ) → inside cells d (chain ws j) ≡ true → (c + d < cells) × (inside cells d (chain ws n) ≡ true)

@@ -10,10 +10,8 @@ use lib.ListN.{length, get_or}
 use borrow.Author.Tests.{eqb-false}
 use Rattle.lists.proofs.Tests.{and_false}
 use Rattle.rows.specs.Care.{Care}
-use Rattle.rows.specs.Fit.{cell_of, is_free, inside, clear, fits_at, first_fit}
+use Rattle.rows.specs.Fit.{cell_of, is_free, inside, clear, fits_at, first_fit, Fit, At, None}
 use Rattle.rows.specs.Demand.{filled}
-use Rattle.rows.specs.declared.Fit.{Fit}
-use Rattle.rows.specs.declared.Fit.TheVariants.{At, None}
 use Rattle.rows.proofs.Fits.First.{inside_less, fits_in, fit_at, fit_none}
 use Rattle.rows.proofs.Fits.Filled.{one, one_pos, sum_to, sum_ones, sum_add, filled_window}
 

@@ -11,9 +11,8 @@ use Rattle.lists.specs.Members.{All}
 use Rattle.lists.proofs.Entries.Members.{all_map}
 use Rattle.lists.proofs.Tests.{and_assoc}
 use Rattle.rows.specs.Care.{Care, in_row}
-use Rattle.rows.specs.Fit.{cell_of, is_free, inside, clear, free_from, reach, needed, fit_from, first_fit, put}
+use Rattle.rows.specs.Fit.{cell_of, is_free, inside, clear, free_from, reach, needed, fit_from, first_fit, put, None}
 use Rattle.rows.specs.Demand.{Columns}
-use Rattle.rows.specs.declared.Fit.TheVariants.{None}
 use Rattle.rows.proofs.Fits.First.{step_out, step_here, step_on}
 use Rattle.rows.proofs.Fits.Needed.{free_same}
 use Rattle.rows.proofs.Fits.Cells.{all_row}

@@ -11,9 +11,7 @@ use lib.ListN.{length}
 use borrow.Author.Tests.{ltb-true, lt-ltb, le-ltb}
 use Rattle.lists.proofs.Tests.{and_true, le_or_lt}
 use Rattle.rows.specs.Care.{Care}
-use Rattle.rows.specs.Fit.{cell_of, inside, clear, fits_at, needed, fit_from, first_fit}
-use Rattle.rows.specs.declared.Fit.{Fit}
-use Rattle.rows.specs.declared.Fit.TheVariants.{At, None}
+use Rattle.rows.specs.Fit.{cell_of, inside, clear, fits_at, needed, fit_from, first_fit, Fit, At, None}
 
 -- ---- the tests
 

@@ -11,9 +11,7 @@ use lib.ListN.{length, get_or}
 use borrow.Author.Tests.{ltb-true, lt-ltb}
 use Rattle.lists.proofs.Tests.{and_true, le_or_lt}
 use Rattle.rows.specs.Care.{Care}
-use Rattle.rows.specs.Fit.{cell_of, inside, clear, free_from, reach, needed, first_fit}
-use Rattle.rows.specs.declared.Fit.{Fit}
-use Rattle.rows.specs.declared.Fit.TheVariants.{At, None}
+use Rattle.rows.specs.Fit.{cell_of, inside, clear, free_from, reach, needed, first_fit, Fit, At, None}
 use Rattle.rows.proofs.Fits.First.{inside_less, fits_in, fits_shut, fits_is, fit_at, fit_none, fit_is}
 
 -- ---- how far a row reaches

@@ -13,14 +13,11 @@ use Rattle.lists.specs.First.{has}
 use Rattle.lists.proofs.Tests.{le_or_lt}
 use Rattle.lists.proofs.Finding.Has.{not_cons}
 use Rattle.rows.specs.Care.{Care, in_row}
-use Rattle.rows.specs.Fit.{first_fit}
+use Rattle.rows.specs.Fit.{first_fit, Fit, At, None}
 use Rattle.rows.specs.Place.{State, Placing, place_row, place_in, place}
 use Rattle.rows.specs.Demand.{filled, tries_of}
 use Rattle.rows.specs.Allowance.{last_row, tries_made, in_hand, end_within}
-use Rattle.rows.specs.declared.End.{End}
-use Rattle.rows.specs.declared.End.TheVariants.{All, NoFit, Over, Unfit}
-use Rattle.rows.specs.declared.Fit.{Fit}
-use Rattle.rows.specs.declared.Fit.TheVariants.{At, None}
+use Rattle.rows.specs.End.{End, All, NoFit, Over, Unfit}
 use Rattle.rows.proofs.Placing.Open.{open_not}
 use Rattle.rows.proofs.Placing.Turns.{next, Next, place_none, place_stuck, place_more, is_next, at_end_in, ended}
 use Rattle.rows.proofs.Placing.Counts.{Counted, counted_start, counted_turn, tries_set}

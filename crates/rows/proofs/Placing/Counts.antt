@@ -12,10 +12,9 @@ use borrow.Author.Tests.{eqb-true}
 use Rattle.lists.specs.First.{has}
 use Rattle.lists.proofs.Finding.Has.{not_cons}
 use Rattle.rows.specs.Care.{Care, in_row, weight_of}
-use Rattle.rows.specs.Fit.{first_fit}
+use Rattle.rows.specs.Fit.{first_fit, At}
 use Rattle.rows.specs.Place.{State, place_row, place}
 use Rattle.rows.specs.Demand.{filled, count_in, Bounded, tries_of, bound_of}
-use Rattle.rows.specs.declared.Fit.TheVariants.{At}
 use Rattle.rows.proofs.Fits.Filled.{filled_put}
 use Rattle.rows.proofs.Fits.Bound.{first_le}
 use Rattle.rows.proofs.Placing.Open.{open_not}

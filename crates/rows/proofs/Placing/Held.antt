@@ -13,11 +13,10 @@ use Rattle.lists.specs.Members.{In}
 use Rattle.lists.proofs.Entries.Members.{in_pos}
 use Rattle.lists.proofs.Finding.Has.{has_self, has_other, has_cons}
 use Rattle.rows.specs.Care.{Care, in_row, weight_of}
-use Rattle.rows.specs.Fit.{first_fit, put}
+use Rattle.rows.specs.Fit.{first_fit, put, At}
 use Rattle.rows.specs.Place.{State, place_row}
 use Rattle.rows.specs.Demand.{filled}
-use Rattle.rows.specs.declared.End.TheVariants.{All}
-use Rattle.rows.specs.declared.Fit.TheVariants.{At}
+use Rattle.rows.specs.End.{All}
 use Rattle.rows.proofs.Fits.First.{fit_at}
 use Rattle.rows.proofs.Fits.Filled.{filled_none}
 use Rattle.rows.proofs.Fits.Cells.{Distinct, in_row_lem, row_in, row_apart, fits_free, put_length, put_other, put_own, put_either}

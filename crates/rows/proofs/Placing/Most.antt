@@ -10,13 +10,11 @@ use lib.ListN.{length, length-set}
 use borrow.Author.Tests.{eq-eqb, ne_eqb}
 use Rattle.lists.specs.First.{has}
 use Rattle.rows.specs.Care.{Care, in_row, weight_of, open_weight, Heavy, heaviest}
-use Rattle.rows.specs.Fit.{first_fit}
+use Rattle.rows.specs.Fit.{first_fit, Fit, At, None}
 use Rattle.rows.specs.Place.{State, Placing, place_row, place_in, place}
 use Rattle.rows.specs.Demand.{filled, count_in, bound_of}
 use Rattle.rows.specs.Allowance.{tries_made, order_in, most_tries}
-use Rattle.rows.specs.declared.End.TheVariants.{All}
-use Rattle.rows.specs.declared.Fit.{Fit}
-use Rattle.rows.specs.declared.Fit.TheVariants.{At, None}
+use Rattle.rows.specs.End.{All}
 use Rattle.rows.proofs.Fits.Bound.{none_le}
 use Rattle.rows.proofs.Placing.Open.{open_not, open_weight_lem}
 use Rattle.rows.proofs.Placing.Heaviest.{is_heaviest}

@@ -12,10 +12,9 @@ use Rattle.lists.specs.First.{has}
 use Rattle.lists.proofs.Tests.{le_or_lt}
 use Rattle.lists.proofs.Finding.Has.{has_cons, not_cons}
 use Rattle.rows.specs.Care.{Care, in_row, weight_of, open_weight}
-use Rattle.rows.specs.Fit.{first_fit}
+use Rattle.rows.specs.Fit.{first_fit, At}
 use Rattle.rows.specs.Place.{State, place_row, place}
 use Rattle.rows.specs.Demand.{Ahead, Falling, Once}
-use Rattle.rows.specs.declared.Fit.TheVariants.{At}
 use Rattle.rows.proofs.Placing.Open.{open_not, open_weight_lem, open_more}
 use Rattle.rows.proofs.Placing.Turns.{Next, at_end}
 

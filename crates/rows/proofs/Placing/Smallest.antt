@@ -8,10 +8,9 @@ use lib.Seq.{get_or-set_same, get_or-set_other}
 use Rattle.lists.specs.First.{has}
 use Rattle.lists.proofs.Finding.Has.{not_cons}
 use Rattle.rows.specs.Care.{Care, in_row}
-use Rattle.rows.specs.Fit.{first_fit}
+use Rattle.rows.specs.Fit.{first_fit, At}
 use Rattle.rows.specs.Place.{State, place_row, place}
 use Rattle.rows.specs.Demand.{cells_of, Smallest}
-use Rattle.rows.specs.declared.Fit.TheVariants.{At}
 use Rattle.rows.proofs.Fits.First.{fit_at}
 use Rattle.rows.proofs.Placing.Open.{open_not}
 use Rattle.rows.proofs.Placing.Turns.{Next, at_end}

@@ -8,12 +8,9 @@ use mathlib.Core.Logic.{◌⊎◌, inl, inr}
 use lib.ListN.{length, set, length-set}
 use borrow.Author.Tests.{eq-eqb, ne_eqb}
 use Rattle.rows.specs.Care.{Care, in_row, open_weight, Heavy, heaviest}
-use Rattle.rows.specs.Fit.{first_fit}
+use Rattle.rows.specs.Fit.{first_fit, Fit, At, None}
 use Rattle.rows.specs.Place.{State, Placing, place_row, place_in, place}
-use Rattle.rows.specs.declared.End.{End}
-use Rattle.rows.specs.declared.End.TheVariants.{All, NoFit, Over, Unfit}
-use Rattle.rows.specs.declared.Fit.{Fit}
-use Rattle.rows.specs.declared.Fit.TheVariants.{At, None}
+use Rattle.rows.specs.End.{End, All, NoFit, Over, Unfit}
 use Rattle.rows.proofs.Fits.Cells.{put_length}
 use Rattle.rows.proofs.Placing.Heaviest.{is_heaviest}
 use Rattle.rows.proofs.Placing.Open.{count_of, count_all, count_none, open_less}

@@ -16,14 +16,11 @@ use Rattle.lists.proofs.Entries.Members.{all_of}
 use Rattle.lists.proofs.Finding.Has.{has_self, has_other}
 use Rattle.lists.proofs.Tests.{and_true, le_or_lt}
 use Rattle.rows.specs.Care.{Care, in_row, weight_of, open_weight, Heavy, heaviest}
-use Rattle.rows.specs.Fit.{cell_of, inside, clear, reach, first_fit, put}
+use Rattle.rows.specs.Fit.{cell_of, inside, clear, reach, first_fit, put, Fit, At, None}
 use Rattle.rows.specs.Place.{State, Placing, place_row, place_in, place}
 use Rattle.rows.specs.Demand.{Columns}
 use Rattle.rows.specs.Needed.{More, places, Keeps, Least, Beside}
-use Rattle.rows.specs.declared.End.{End}
-use Rattle.rows.specs.declared.End.TheVariants.{All, NoFit, Over, Unfit}
-use Rattle.rows.specs.declared.Fit.{Fit}
-use Rattle.rows.specs.declared.Fit.TheVariants.{At, None}
+use Rattle.rows.specs.End.{End, All, NoFit, Over, Unfit}
 use Rattle.rows.proofs.Fits.First.{fit_none, fit_inside}
 use Rattle.rows.proofs.Fits.Needed.{FirstFree, first_free, needed_is, fit_enough, fit_same, fit_short, none_short, inside_reach, needed_low}
 use Rattle.rows.proofs.Fits.Cells.{in_row_lem, put_length}

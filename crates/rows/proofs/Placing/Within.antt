@@ -15,8 +15,7 @@ use Rattle.rows.specs.Care.{Care}
 use Rattle.rows.specs.Place.{Placing, place}
 use Rattle.rows.specs.Demand.{Once, tries_of}
 use Rattle.rows.specs.Allowance.{last_row, last_tries, tries_made, in_hand, end_within, placed_within, tries_to, places_within}
-use Rattle.rows.specs.declared.End.{End}
-use Rattle.rows.specs.declared.End.TheVariants.{All, NoFit, Over, Unfit}
+use Rattle.rows.specs.End.{End, All, NoFit, Over, Unfit}
 use Rattle.rows.proofs.Placing.Open.{open_not}
 use Rattle.rows.proofs.Placing.Turns.{ended}
 use Rattle.rows.proofs.Placing.Order.{ordered}

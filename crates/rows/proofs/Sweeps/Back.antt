@@ -12,18 +12,13 @@ use Rattle.lists.proofs.Entries.Members.{all_in, all_of, in_pos}
 use Rattle.rows.specs.Care.{Care, in_row, weight_of}
 use Rattle.rows.specs.Place.{State}
 use Rattle.rows.specs.Answer.{cares_in, cares_of}
-use Rattle.rows.specs.Inner.Chains.{undone, Within, mark_bit}
+use Rattle.rows.specs.Inner.Chains.{Within, WayBack, mark_bit}
 use Rattle.rows.proofs.Fits.Cells.{row_in}
 use Rattle.rows.proofs.Placing.Open.{open_none}
 use Rattle.rows.proofs.Placing.Held.{Lies, Clearing}
 use Rattle.rows.proofs.Sweeps.Marks.{RowState, shut, marked}
 use Rattle.rows.proofs.Sweeps.Undoing.{Leads, Free, Undoing, undone_is}
 use Rattle.rows.proofs.Answers.Owned.{owned_undone, all_owned, all_own}
-
--- the rows h and the cells g can be taken back to g₀
-pub record WayBack (ws g₀ h g : List ℕ) : Type 0 where
-  pub within : All (Within h (length g)) (cares_in ws)
-  pub back : undone h (cares_in ws) g ≡ g₀
 
 module _ (owner : ℕ) (ws : List ℕ) (n : ℕ) (g₀ : List ℕ) (rows : All (λ c. c.row < n) (cares_in ws)) (h g : List ℕ) (s : State)
     (clearing : Clearing (cares_of owner ws) g₀ s) (size : length h ≡ n)

@@ -1,52 +1,43 @@
 -- The rows placed by their marks: the code's words beside the state of the placing. Assumes nothing.
-use Prim.Native.Nat.{ℕ, suc, ◌+◌, ◌-◌, ◌*◌, ◌≤◌, ◌<◌}
+use Prim.Native.Nat.{ℕ, suc, ◌+◌, ◌-◌, ◌*◌, max, ◌≤◌, ◌<◌}
 use native.Mathlib.Nat.{eq-or-lt_of_le}
 use native.Mathlib.Numerals.{add-one}
 use native.Mathlib.Omega.{arith}
-use mathlib.Core.Path.{◌≡◌, refl, sym, ap, ◌∙◌}
+use mathlib.Core.Path.{◌≡◌, refl, sym, ap, ap₂, ◌∙◌}
+use mathlib.Core.Bool.{true, false}
 use mathlib.Core.List.{List, [], ◌∷◌}
 use mathlib.Core.Logic.{⊎_elim}
 use lib.ListN.{length, get_or, set, drop, replicate, length-set, length-map, length-drop, length-replicate, get_or-replicate}
 use lib.Seq.{ext_get_or}
+use Rattle.std.specs.Prelude.{Result, Ok, Err, MatchResult}
+use Rattle.std.specs.Result.{is_err}
 use Rattle.lists.specs.Members as Members
 use Rattle.vectors.specs.Bounds.{max_cells}
 use Rattle.rows.specs.Care.{Care, in_row, open_weight}
-use Rattle.rows.specs.Fit.{first_fit, put}
+use Rattle.rows.specs.Fit.{first_fit, put, Fit, At, None}
 use Rattle.rows.specs.Place.{State, Placing, place, place_row}
 use Rattle.rows.specs.Demand.{filled}
 use Rattle.rows.specs.Allowance.{end_within}
 use Rattle.rows.specs.Answer.{row_in, column_in, cares_in, cares_of, owned, left, settled}
-use Rattle.rows.specs.Inner.Chains.{chain, chain_of, Rises, Weighs, weight_from, head_of, Marked, RowPlaced, undone, Within}
-use Rattle.rows.specs.declared.End.TheVariants.{All, NoFit, Over}
-use Rattle.rows.specs.declared.Fit.{Fit}
-use Rattle.rows.specs.declared.Fit.TheVariants.{At, None}
-use Rattle.rows.proofs.Fits.First.{fit_low, none_low}
+use Rattle.rows.specs.Inner.Chains as tried
+use Rattle.rows.specs.Inner.Chains.{chain, chain_of, Rises, Weighs, weight_in, mark_bit, Marked, RowTried, WayBack}
+use Rattle.rows.specs.Told.{stop_told, told}
+use Rattle.rows.specs.Inner.Swept.{Ended, Swept}
+use Rattle.rows.specs.End.{All, NoFit, Over}
+use Rattle.rows.specs.declared.Stop.{Stop}
+use Rattle.rows.proofs.Fits.First.{fit_low}
 use Rattle.rows.proofs.Fits.Cells.{cares_length}
 use Rattle.rows.proofs.Placing.Open.{count_of, count_all, open_less}
+use Rattle.rows.proofs.Chains.Steps.{weight_none, weight_some}
 use Rattle.rows.proofs.Chains.Walks.{chain_pos}
 use Rattle.rows.proofs.Placing.Turns.{Next}
 use Rattle.rows.proofs.Placing.Counts.{Counted, counted_start, counted_turn}
 use Rattle.rows.proofs.Placing.Held.{Clearing, clearing_start, clearing_turn}
 use Rattle.rows.proofs.Placing.Allowed.{within_same, exceeded_end, exceeded_stuck}
 use Rattle.rows.proofs.Answers.Settled.{settle_all, settle_stuck, settle_over}
-use Rattle.rows.proofs.Sweeps.Levels.{Sweep, sweep_start, sweep_next, sweep_end, sweep_pass, sweep_turn, sweep_stuck, sweep_more}
-use Rattle.rows.proofs.Sweeps.Marks.{RowState, MarkedAt, row_weight, row_none, row_open, row_set, row_start}
-use Rattle.rows.proofs.Sweeps.Back.{WayBack, way_back}
-
--- ---- the placing of one row
-
-pub placed_at : (m : List Care) (row : ℕ) (h g : List ℕ) (d : ℕ) {g' : List ℕ} → first_fit g m ≡ At d → g' ≡ put g d m → RowPlaced m row h g (At d) (set h row d) g'
-placed_at m row h g d e q =
-    record { is = sym e; rows_are = λ u k. let a : d ≡ u = cc in rw a; cells_are = λ u k. let a : d ≡ u = cc in q ∙ rw a; kept = λ t n k. absurd (at_none k) }
-  where
-    at_none : {t n : ℕ} → ◌≡◌ {A = Fit} (At d) (None t n) → ⊥
-    at_none {t} {n} k = let z : ◌≡◌ {A = ℕ} 0 1 = cc in omega arith
-
-pub placed_none : (m : List Care) (row : ℕ) (h g : List ℕ) (t n : ℕ) → first_fit g m ≡ None t n → RowPlaced m row h g (None t n) h g
-placed_none m row h g t n e = record { is = sym e; rows_are = λ u k. absurd (none_at k); cells_are = λ u k. absurd (none_at k); kept = λ u v k. (refl, refl) }
-  where
-    none_at : {u : ℕ} → ◌≡◌ {A = Fit} (None t n) (At u) → ⊥
-    none_at {u} k = let z : ◌≡◌ {A = ℕ} 0 1 = cc in omega arith
+use Rattle.rows.proofs.Sweeps.Levels.{Sweep, sweep_start, sweep_end, sweep_pass, sweep_turn, sweep_stuck, sweep_more}
+use Rattle.rows.proofs.Sweeps.Marks.{RowState, shut, marked, row_weight, row_none, row_open, row_set, row_start}
+use Rattle.rows.proofs.Sweeps.Back.{way_back}
 
 -- ---- the loop's state: a sweep for the level, at the row i
 
@@ -92,31 +83,11 @@ going_back : (owner : ℕ) (ws : List ℕ) (n : ℕ) (g₀ h g : List ℕ) (trie
 going_back owner ws n g₀ h g tries level below i go rows =
     way_back owner ws n g₀ rows h g go.state go.clearing go.all_rows go.states go.cells
 
--- the way back from a row i of the level, and what is answered then with an allowance: its tries exceed it
-pub record Past (a owner : ℕ) (ws : List ℕ) (n : ℕ) (g₀ h g : List ℕ) (i : ℕ) : Type 0 where
-  pub within : Members.All (Within h (length g)) (cares_in ws)
-  pub ends : {h' g' : List ℕ} → h' ≡ replicate (length h) 0 → g' ≡ undone h (cares_in ws) g
-      → left (record { end = Over i; tries = 0 }) h' g' ≡ settled a (cares_of owner ws) n g₀
-
--- it has no displacement after t tried, and needs so many cells
-pub record Stuck (a owner : ℕ) (ws : List ℕ) (n : ℕ) (g₀ h g : List ℕ) (tries i t needs : ℕ) : Type 0 where
-  pub within : Members.All (Within h (length g)) (cares_in ws)
-  pub ends : {h' g' : List ℕ} → h' ≡ replicate (length h) 0 → g' ≡ undone h (cares_in ws) g → tries + t ≤ a
-      → left (record { end = NoFit i t needs; tries = tries }) h' g' ≡ settled a (cares_of owner ws) n g₀
-  pub over : {h' g' : List ℕ} → h' ≡ replicate (length h) 0 → g' ≡ undone h (cares_in ws) g → a < tries + t
-      → left (record { end = Over i; tries = 0 }) h' g' ≡ settled a (cares_of owner ws) n g₀
-
--- what is known of a row i of the level, marked at first, where the tries before it keep within the allowance: its tries fit, and it is placed, or they exceed the allowance, or it has no displacement
+-- what is known of a row i of the level, marked at first, where the tries before it keep within the allowance: its tries fit, and once it is tried the loop goes on or the placing ends
 pub record AtLevel (a owner : ℕ) (ws : List ℕ) (n : ℕ) (g₀ h g : List ℕ) (tries level below i first : ℕ) : Type 0 where
-  pub marks : MarkedAt owner ws (cares_of owner ws) i first
   pub fits : tries + max_cells ≤ max_cells * length h
-  pub low : {f : Fit} {h' g' : List ℕ} → RowPlaced (chain_of owner ws first) i h g f h' g' → (d : ℕ) → f ≡ At d → d < length g
-  pub tried : {f : Fit} {h' g' : List ℕ} → RowPlaced (chain_of owner ws first) i h g f h' g' → (t needs : ℕ) → f ≡ None t needs → t ≤ length g
-  pub more : {f : Fit} {h' g' : List ℕ} → RowPlaced (chain_of owner ws first) i h g f h' g' → (d : ℕ) → f ≡ At d → length g ≤ max_cells
-      → Going owner ws n g₀ h' g' (tries + (d + 1)) level below (i + 1)
-  pub past : {f : Fit} {h' g' : List ℕ} → RowPlaced (chain_of owner ws first) i h g f h' g' → (d : ℕ) → f ≡ At d → length g ≤ max_cells → a < tries + (d + 1)
-      → Past a owner ws n g₀ h' g' i
-  pub stuck : {f : Fit} {h' g' : List ℕ} → RowPlaced (chain_of owner ws first) i h g f h' g' → (t needs : ℕ) → f ≡ None t needs → Stuck a owner ws n g₀ h' g' tries i t needs
+  pub next : {r : Result ℕ Stop} {h' g' : List ℕ} → length g ≤ max_cells → RowTried (chain_of owner ws first) i tries a h g r h' g'
+      → MatchResult r (λ more. Going owner ws n g₀ h' g' more level below (i + 1) × (more ≤ a)) (λ stop. Ended a owner ws n g₀ h' g' (stop_told stop))
 
 module _ (owner : ℕ) (ws : List ℕ) (rises : Rises 0 ws) (weighs : Weighs 0 ws) (n : ℕ) (g₀ h g : List ℕ) (tries level below i : ℕ)
     (go : Going owner ws n g₀ h g tries level below i) where
@@ -136,10 +107,6 @@ module _ (owner : ℕ) (ws : List ℕ) (rises : Rises 0 ws) (weighs : Weighs 0 w
         room = go.room;
       }
 
-  -- the last row is passed
-  pub going_next : length h ≤ i → Going owner ws n g₀ h g tries below 0 0
-  going_next l = swept below 0 0 (sweep_next (cares_of owner ws) (plan owner ws n g₀) go.state level below i (omega (arith, go.size)) go.sweep)
-
   -- no level is left
   pub going_end : (a : ℕ) → tries ≤ a → level ≤ 0 → left (record { end = All; tries = tries }) h g ≡ settled a (cares_of owner ws) n g₀
   unfolding settled
@@ -150,128 +117,143 @@ module _ (owner : ℕ) (ws : List ℕ) (rises : Rises 0 ws) (weighs : Weighs 0 w
       let P : Placing = record { end = All; state = go.state } in
       rw (e, settle_all a P (replicate n 0) g₀ (within_same a P (omega (arith, go.tried))), go.cells, go.tried, ← q)
 
-  -- at the row i, of the weight w and with its first vector first
-  module _ (l : i < length h) (w first : ℕ) (ew : w ≡ weight_from ws (head_of (length ws) (get_or h i 0))) (ef : first ≡ head_of (length ws) (get_or h i 0)) where
-    weight_is : w ≡ open_weight (cares_of owner ws) go.state.order i
-    weight_is = ew ∙ row_weight owner ws (cares_of owner ws) go.state.order weighs (go.states i l)
+  -- at a row i that is placed or empty
+  pub going_skip : i < length h → get_or h i 0 ≤ mark_bit → Going owner ws n g₀ h g tries level below (i + 1)
+  going_skip l m =
+      let z = row_weight owner ws (cares_of owner ws) go.state.order weighs (go.states i l) in
+      let w = weight_none ws (get_or h i 0) m in
+      swept level below (i + 1)
+      (sweep_pass (cares_of owner ws) (plan owner ws n g₀) go.state level below i go.sweep below (omega arith) (omega (arith, z, w)) go.sweep.under)
 
-    below_level : (w ≡ level → ⊥) → w < level
-    below_level n =
-        ⊎_elim (λ e. absurd (n e)) (λ m. m) (eq-or-lt_of_le (rw (← weight_is) at (go.sweep.most i (omega (arith, go.size)))))
+  -- at a marked row i
+  module _ (l : i < length h) (m : mark_bit < get_or h i 0) where
+    pub going_first : get_or h i 0 - mark_bit < length ws
+    going_first = by (go.states i l)
+      where
+        by : RowState owner ws (cares_of owner ws) go.state.order i (get_or h i 0) (get_or go.state.h i 0) → get_or h i 0 - mark_bit < length ws
+        by (shut b c o) = absurd (omega arith)
+        by (marked b c o d) = omega arith
 
-    pass : (b : ℕ) → below ≤ b → w ≤ b → (0 < level → b < level) → Going owner ws n g₀ h g tries level b (i + 1)
-    pass b m o u = swept level b (i + 1) (sweep_pass (cares_of owner ws) (plan owner ws n g₀) go.state level below i go.sweep b m (rw weight_is at o) u)
+    pub going_low : 0 < get_or h i 0 - mark_bit
+    going_low = omega arith
 
-    -- it is of another weight, no greater than one passed
-    pub going_pass : (w ≡ level → ⊥) → w ≤ below → Going owner ws n g₀ h g tries level below (i + 1)
-    going_pass n m = pass below (omega arith) m go.sweep.under
+    -- of the weight w
+    module _ (w : ℕ) (ew : w ≡ weight_in (get_or ws (get_or h i 0 - mark_bit) 0)) where
+      weight_is : w ≡ open_weight (cares_of owner ws) go.state.order i
+      weight_is = ew ∙ sym (weight_some ws (get_or h i 0) m going_first) ∙ row_weight owner ws (cares_of owner ws) go.state.order weighs (go.states i l)
 
-    -- it is of another weight, the greatest passed
-    pub going_under : (w ≡ level → ⊥) → below < w → Going owner ws n g₀ h g tries level w (i + 1)
-    going_under n m = pass w (omega arith) (omega arith) (λ k. below_level n)
+      -- it is of another weight
+      pub going_pass : (w ≡ level → ⊥) → Going owner ws n g₀ h g tries level (max below w) (i + 1)
+      going_pass d =
+          let u : w < level = ⊎_elim (λ e. absurd (d e)) (λ k. k) (eq-or-lt_of_le (rw (← weight_is) at (go.sweep.most i (omega (arith, go.size))))) in
+          swept level (max below w) (i + 1)
+          (sweep_pass (cares_of owner ws) (plan owner ws n g₀) go.state level below i go.sweep (max below w) (omega arith) (omega (arith, weight_is)) (λ k. omega (arith, u, go.sweep.under k)))
 
-    -- it is of the level
-    module _ (p : 0 < level) (e : w ≡ level) (rows : Members.All (λ c. c.row < n) (cares_in ws)) where
-      at_level : open_weight (cares_of owner ws) go.state.order i ≡ level
-      at_level = sym weight_is ∙ e
+      -- it is of the level
+      module _ (p : 0 < level) (e : w ≡ level) (rows : Members.All (λ c. c.row < n) (cares_in ws)) where
+        first : ℕ
+        first = get_or h i 0 - mark_bit
 
-      inside : i < length go.state.h
-      inside = omega (arith, go.size)
+        at_level : open_weight (cares_of owner ws) go.state.order i ≡ level
+        at_level = sym weight_is ∙ e
 
-      going_marked : MarkedAt owner ws (cares_of owner ws) i first
-      going_marked = rw ef (row_open owner ws (cares_of owner ws) go.state.order (go.states i l) (omega (arith, at_level)))
+        inside : i < length go.state.h
+        inside = omega (arith, go.size)
 
-      fewer : count_of (open_weight (cares_of owner ws) (i ∷ go.state.order)) (length go.state.h) < count_of (open_weight (cares_of owner ws) go.state.order) (length go.state.h)
-      fewer = open_less (cares_of owner ws) go.state.order i (length go.state.h) (omega (arith, at_level)) inside
+        is : chain_of owner ws first ≡ in_row i (cares_of owner ws)
+        unfolding first
+        is = row_open owner ws (cares_of owner ws) go.state.order (go.states i l) m
 
-      going_turn : Next (cares_of owner ws) go.state i
-      going_turn = sweep_turn (cares_of owner ws) (plan owner ws n g₀) go.state level below i go.sweep inside p at_level
+        some : 0 < length (chain_of owner ws first)
+        unfolding first
+        some = omega (arith, length-map (chain ws (get_or h i 0 - mark_bit)) (owned owner), chain_pos ws rises (get_or h i 0 - mark_bit) going_low going_first)
 
-      -- its tries fit
-      going_room : tries + max_cells ≤ max_cells * length h
-      going_room = omega (arith, fewer, go.room)
+        fewer : count_of (open_weight (cares_of owner ws) (i ∷ go.state.order)) (length go.state.h) < count_of (open_weight (cares_of owner ws) go.state.order) (length go.state.h)
+        fewer = open_less (cares_of owner ws) go.state.order i (length go.state.h) (omega (arith, at_level)) inside
 
-      -- the answer f of its placing
-      module _ (f : Fit) (h' g' : List ℕ) (placed : RowPlaced (chain_of owner ws first) i h g f h' g') where
-        answer : first_fit go.state.g (in_row i (cares_of owner ws)) ≡ f
-        answer = rw (go.cells, ← going_marked.is) (sym placed.is)
+        turn : Next (cares_of owner ws) go.state i
+        turn = sweep_turn (cares_of owner ws) (plan owner ws n g₀) go.state level below i go.sweep inside p at_level
+
+        -- its first fit beside the rows placed
+        answer : {f : Fit} → first_fit g (chain_of owner ws first) ≡ f → first_fit go.state.g (in_row i (cares_of owner ws)) ≡ f
+        answer q = rw (go.cells, ← is) q
 
         -- there is no displacement
-        module _ (t needs : ℕ) (q : f ≡ None t needs) where
+        module _ (t needs : ℕ) (q : first_fit g (chain_of owner ws first) ≡ None t needs) (a : ℕ) where
           abbrev S : Placing
           S = record { end = NoFit i t needs; state = go.state }
 
           is_stuck : plan owner ws n g₀ ≡ S
-          is_stuck = sweep_stuck (cares_of owner ws) (plan owner ws n g₀) go.state level below i go.sweep inside p at_level t needs (answer ∙ q)
+          is_stuck = sweep_stuck (cares_of owner ws) (plan owner ws n g₀) go.state level below i go.sweep inside p at_level t needs (answer q)
 
-          -- those tried are below the number of cells
-          going_tried : t ≤ length g
-          going_tried =
-              none_low g (chain_of owner ws first) t needs
-              (omega (arith, length-map (chain ws first) (owned owner), chain_pos ws rises first going_marked.low going_marked.high))
-              (sym placed.is ∙ q)
+          way : WayBack ws g₀ h g
+          way = going_back owner ws n g₀ h g tries level below i go rows
 
-          going_stuck : (a : ℕ) → tries ≤ a → Stuck a owner ws n g₀ h' g' tries i t needs
+          stuck_ends : tries + t ≤ a → Ended a owner ws n g₀ h g (record { end = NoFit i t needs; tries = tries })
           unfolding settled
-          going_stuck a m =
-              let b = going_back owner ws n g₀ h g tries level below i go rows in
-              let k = placed.kept t needs q in
-              rw (k.0, k.1)
-              (record {
-                within = b.within;
-                ends = λ {h'} {g'} x y l.
-                    rw (is_stuck, settle_stuck a S (replicate n 0) g₀ i t needs (within_same a S (omega (arith, go.tried))), x, y, b.back, go.all_rows, go.tried);
-                over = λ {h'} {g'} x y l.
-                    rw (is_stuck, settle_over a S (replicate n 0) g₀ i (exceeded_stuck (cares_of owner ws) a go.state i t needs go.counts.tries (omega (arith, go.tried)) (omega (arith, go.tried))), x, y, b.back, go.all_rows);
-              })
+          stuck_ends u =
+              record {
+                way = way;
+                ends = rw (is_stuck, settle_stuck a S (replicate n 0) g₀ i t needs (within_same a S (omega (arith, go.tried))), go.tried);
+              }
 
-        module _ (d : ℕ) (q : f ≡ At d) where
-          -- the displacement is below the number of cells
-          going_low : d < length g
-          going_low =
-              fit_low g (chain_of owner ws first) d
-              (omega (arith, length-map (chain ws first) (owned owner), chain_pos ws rises first going_marked.low going_marked.high))
-              (sym placed.is ∙ q)
+          stuck_over : tries ≤ a → a < tries + t → Ended a owner ws n g₀ h g (record { end = Over i; tries = 0 })
+          unfolding settled
+          stuck_over k u =
+              record {
+                way = way;
+                ends = rw (is_stuck, settle_over a S (replicate n 0) g₀ i (exceeded_stuck (cares_of owner ws) a go.state i t needs go.counts.tries (omega (arith, go.tried)) (omega (arith, go.tried))));
+              }
 
-          -- the row is placed
-          going_more : length g ≤ max_cells → Going owner ws n g₀ h' g' (tries + (d + 1)) level below (i + 1)
-          going_more m =
-              let low = going_low in
-              rw (placed.rows_are d q, placed.cells_are d q)
-              (record {
+        -- the row is placed
+        module _ (d : ℕ) (q : first_fit g (chain_of owner ws first) ≡ At d) (few : length g ≤ max_cells) where
+          more : Going owner ws n g₀ (set h i d) (put g d (chain_of owner ws first)) (tries + (d + 1)) level below (i + 1)
+          more =
+              let low = fit_low g (chain_of owner ws first) d some q in
+              record {
                 state = place_row (cares_of owner ws) go.state i d;
-                sweep = sweep_more (cares_of owner ws) (plan owner ws n g₀) go.state level below i go.sweep inside p at_level d (answer ∙ q);
+                sweep = sweep_more (cares_of owner ws) (plan owner ws n g₀) go.state level below i go.sweep inside p at_level d (answer q);
                 states = λ r j. row_set owner ws (cares_of owner ws) go.state.order h go.state.h i d (omega arith) l inside r (go.states r (rw length-set at j));
                 size = simp length-set go.size;
                 all_rows = simp length-set go.all_rows;
-                cells = rw (go.cells, going_marked.is);
+                cells = ap₂ (λ (x : List ℕ) (m : List Care). put x d m) go.cells (sym is);
                 tried = rw add-one (ap (λ (t : ℕ). t + suc d) go.tried);
-                counts = counted_turn (cares_of owner ws) (filled g₀) go.state i d going_turn (answer ∙ q) go.counts;
-                clearing = clearing_turn (cares_of owner ws) go.state i d going_turn (answer ∙ q) g₀ go.clearing;
+                counts = counted_turn (cares_of owner ws) (filled g₀) go.state i d turn (answer q) go.counts;
+                clearing = clearing_turn (cares_of owner ws) go.state i d turn (answer q) g₀ go.clearing;
                 room = simp length-set (omega (arith, fewer, go.room));
-              })
-
-          -- and its tries exceed the allowance
-          going_past : (a : ℕ) → tries ≤ a → length g ≤ max_cells → a < tries + (d + 1) → Past a owner ws n g₀ h' g' i
-          unfolding settled
-          going_past a k m l =
-              let next = going_more m in
-              let b = going_back owner ws n g₀ h' g' (tries + (d + 1)) level below (i + 1) next rows in
-              let s = sweep_more (cares_of owner ws) (plan owner ws n g₀) go.state level below i go.sweep inside p at_level d (answer ∙ q) in
-              let e = ap (end_within a) (sym s.same) ∙ exceeded_end (cares_of owner ws) a s.left go.state i d going_turn go.counts.tries (omega (arith, go.tried)) (omega (arith, go.tried)) in
-              record {
-                within = b.within;
-                ends = λ {h'} {g'} x y. rw (settle_over a (plan owner ws n g₀) (replicate n 0) g₀ i e, x, y, b.back, next.all_rows);
               }
 
-      pub going_level : (a : ℕ) → tries ≤ a → AtLevel a owner ws n g₀ h g tries level below i first
-      going_level a m =
-          record {
-            marks = going_marked;
-            fits = going_room;
-            low = λ {f} {h'} {g'} r d q. going_low f h' g' r d q;
-            tried = λ {f} {h'} {g'} r t needs q. going_tried f h' g' r t needs q;
-            more = λ {f} {h'} {g'} r d q. going_more f h' g' r d q;
-            past = λ {f} {h'} {g'} r d q. going_past f h' g' r d q a m;
-            stuck = λ {f} {h'} {g'} r t needs q. going_stuck f h' g' r t needs q a m;
-          }
+          -- and its tries exceed the allowance
+          past : (a : ℕ) → tries ≤ a → a < tries + (d + 1) → Ended a owner ws n g₀ (set h i d) (put g d (chain_of owner ws first)) (record { end = Over i; tries = 0 })
+          unfolding settled
+          past a k u =
+              let s = sweep_more (cares_of owner ws) (plan owner ws n g₀) go.state level below i go.sweep inside p at_level d (answer q) in
+              let x = ap (end_within a) (sym s.same) ∙ exceeded_end (cares_of owner ws) a s.left go.state i d turn go.counts.tries (omega (arith, go.tried)) (omega (arith, go.tried)) in
+              record {
+                way = going_back owner ws n g₀ (set h i d) (put g d (chain_of owner ws first)) (tries + (d + 1)) level below (i + 1) more rows;
+                ends = rw (settle_over a (plan owner ws n g₀) (replicate n 0) g₀ i x);
+              }
+
+        next : (a : ℕ) → tries ≤ a → {r : Result ℕ Stop} {h' g' : List ℕ} → length g ≤ max_cells → RowTried (chain_of owner ws first) i tries a h g r h' g'
+            → MatchResult r (λ more. Going owner ws n g₀ h' g' more level below (i + 1) × (more ≤ a)) (λ stop. Ended a owner ws n g₀ h' g' (stop_told stop))
+        next a k few (tried.placed d q x y u e) = rw (e, x, y) (more d q few, u)
+        next a k few (tried.over d q x y u e) = rw (e, x, y) (past d q few a k u)
+        next a k few (tried.stuck t needs q x y u e) = rw (e, x, y) (stuck_ends t needs q a u)
+        next a k few (tried.stuck_over t needs q x y u e) = rw (e, x, y) (stuck_over t needs q a k u)
+
+        pub going_level : (a : ℕ) → tries ≤ a → AtLevel a owner ws n g₀ h g tries level below i (get_or h i 0 - mark_bit)
+        unfolding first
+        going_level a k = record { fits = omega (arith, fewer, go.room); next = λ {r} {h'} {g'} few t. next a k few t }
+
+-- ---- the end of the sweeps
+
+module _ (a owner : ℕ) (ws : List ℕ) (n : ℕ) (g₀ h g : List ℕ) where
+  -- the rows are taken back
+  pub swept_back : (r : Result ℕ Stop) → true ≡ is_err r → Swept a owner ws n g₀ h g r → Ended a owner ws n g₀ h g (told r)
+  swept_back (Ok t) e s = cc
+  swept_back (Err p) e s = s
+
+  -- all are placed
+  pub swept_all : (r : Result ℕ Stop) → false ≡ is_err r → Swept a owner ws n g₀ h g r → left (told r) h g ≡ settled a (cares_of owner ws) n g₀
+  swept_all (Ok t) e s = s
+  swept_all (Err p) e s = cc

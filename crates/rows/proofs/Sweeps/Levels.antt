@@ -11,10 +11,9 @@ use Rattle.lists.specs.First.{has}
 use Rattle.lists.proofs.Tests.{le_or_lt}
 use Rattle.lists.proofs.Finding.Has.{has_self}
 use Rattle.rows.specs.Care.{Care, in_row, open_weight, heaviest}
-use Rattle.rows.specs.Fit.{first_fit}
+use Rattle.rows.specs.Fit.{first_fit, At, None}
 use Rattle.rows.specs.Place.{State, Placing, place_row, place_in, place}
-use Rattle.rows.specs.declared.End.TheVariants.{All, NoFit}
-use Rattle.rows.specs.declared.Fit.TheVariants.{At, None}
+use Rattle.rows.specs.End.{All, NoFit}
 use Rattle.rows.proofs.Placing.Heaviest.{is_heaviest}
 use Rattle.rows.proofs.Placing.Open.{count_of, count_all, open_is, open_more, open_shut, open_less}
 use Rattle.rows.proofs.Placing.Turns.{next, Next, is_next, place_none, place_stuck, place_more}
@@ -66,18 +65,6 @@ module _ (cs : List Care) (h g : List ℕ) where
       }
 
 module _ (cs : List Care) (P : Placing) (s : State) (level below : ℕ) where
-  -- the last row is passed
-  pub sweep_next : (i : ℕ) → length s.h ≤ i → Sweep cs P s level below i → Sweep cs P s below 0 0
-  sweep_next i l w =
-      record {
-        left = w.left;
-        same = w.same;
-        enough = w.enough;
-        most = λ r m. w.passed r (omega arith) m;
-        passed = λ r m. absurd (omega arith);
-        under = λ m. m;
-      }
-
   -- no level is left
   pub sweep_end : (i : ℕ) → level ≤ 0 → Sweep cs P s level below i → P ≡ record { end = All; state = s }
   unfolding place_in

@@ -12,9 +12,9 @@ use Rattle.lists.specs.First.{has}
 use Rattle.lists.proofs.Finding.Has.{has_other, has_self}
 use Rattle.rows.specs.Care.{Care, in_row, weight_of, open_weight}
 use Rattle.rows.specs.Answer.{owned}
-use Rattle.rows.specs.Inner.Chains.{chain, chain_of, Rises, Weighs, weight_from, head_of, Mark, empty, start, mark_bit}
+use Rattle.rows.specs.Inner.Chains.{chain, chain_of, Rises, Weighs, Mark, empty, start, mark_bit}
 use Rattle.rows.proofs.Placing.Open.{open_is}
-use Rattle.rows.proofs.Chains.Steps.{weight_out, weight_chain, head_none, head_some}
+use Rattle.rows.proofs.Chains.Steps.{weight_from, head_of, weight_out, weight_chain, head_none, head_some}
 use Rattle.rows.proofs.Chains.Walks.{chain_pos}
 use Rattle.rows.proofs.Answers.Owned.{owned_row}
 
@@ -22,12 +22,6 @@ use Rattle.rows.proofs.Answers.Owned.{owned_row}
 pub data RowState (owner : ℕ) (ws : List ℕ) (cs : List Care) (order : List ℕ) (r x y : ℕ) : Type 0 where
   shut : x ≤ mark_bit → x ≡ y → open_weight cs order r ≡ 0 → RowState owner ws cs order r x y
   marked : mark_bit < x → x < mark_bit + length ws → chain_of owner ws (x - mark_bit) ≡ in_row r cs → has r order ≡ false → RowState owner ws cs order r x y
-
--- the row r is marked at first
-pub record MarkedAt (owner : ℕ) (ws : List ℕ) (cs : List Care) (r first : ℕ) : Type 0 where
-  pub low : 0 < first
-  pub high : first < length ws
-  pub is : chain_of owner ws first ≡ in_row r cs
 
 module _ (owner : ℕ) (ws : List ℕ) (cs : List Care) (order : List ℕ) where
   marked_weight : (r x : ℕ) → chain_of owner ws (x - mark_bit) ≡ in_row r cs → has r order ≡ false → length (chain ws (x - mark_bit)) ≡ open_weight cs order r
@@ -43,9 +37,9 @@ module _ (owner : ℕ) (ws : List ℕ) (cs : List Care) (order : List ℕ) where
   row_none rises (shut a b c) z = b
   row_none rises {r} {x} (marked a b c n) z = absurd (omega (arith, marked_weight r x c n, chain_pos ws rises (x - mark_bit) (omega arith) (omega arith)))
 
-  pub row_open : {r x y : ℕ} → RowState owner ws cs order r x y → 0 < open_weight cs order r → MarkedAt owner ws cs r (head_of (length ws) x)
+  pub row_open : {r x y : ℕ} → RowState owner ws cs order r x y → mark_bit < x → chain_of owner ws (x - mark_bit) ≡ in_row r cs
   row_open (shut a b c) l = absurd (omega arith)
-  row_open {r} {x} (marked a b c n) l = rw (head_some (length ws) x a) (record { low = omega arith; high = omega arith; is = c })
+  row_open (marked a b c n) l = c
 
   -- another row is placed
   row_other : {i x y : ℕ} (r : ℕ) → (i ≡ r → ⊥) → RowState owner ws cs order i x y → RowState owner ws cs (r ∷ order) i x y

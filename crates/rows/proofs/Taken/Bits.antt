@@ -93,16 +93,16 @@ module _ (taken : List ℕ) (c : ℕ) (low : c / 64 < length taken) where
       by false q = ap (λ (w : ℕ). bit w (e % 64)) (get_or-set_other taken (c / 64) (e / 64) x 0 (eqb-false (e / 64) (c / 64) q))
 
   -- the cells g become g', where c alone is taken besides
-  pub taken_more : (g g' : List ℕ) → Taken g taken → (get_or g' c 0 ≡ 0 → ⊥) → ((e : ℕ) → (e ≡ c → ⊥) → get_or g' e 0 ≡ get_or g e 0)
+  pub taken_more : (g g' : List ℕ) → length g' ≤ max_cells → Taken g taken → (get_or g' c 0 ≡ 0 → ⊥) → ((e : ℕ) → (e ≡ c → ⊥) → get_or g' e 0 ≡ get_or g e 0)
       → Taken g' (set taken (c / 64) (bit_or (get_or taken (c / 64) 0) (1 * 2 ^ (c % 64) % 2 ^ 64)))
-  taken_more g g' s own same = record { size = length-set taken (c / 64) _ ∙ s.size; bits = λ e h. by e h (eqb e c) refl }
+  taken_more g g' few s own same = record { few = few; size = length-set taken (c / 64) _ ∙ s.size; bits = λ e h. by e h (eqb e c) refl }
     where
       by : (e : ℕ) → e < 64 * taken_words → (b : Bool) → eqb e c ≡ b
           → bit_in (set taken (c / 64) (bit_or (get_or taken (c / 64) 0) (1 * 2 ^ (c % 64) % 2 ^ 64))) e ≡ shut_bit (is_free g' e)
       by e h true q = rw (eqb-true e c q, ne_eqb (get_or g' c 0) 0 own) bit_here
       by e h false q = let n = eqb-false e c q in rw (same e n) (bit_there e n ∙ s.bits e h)
 
-pub taken_put : (g taken : List ℕ) (c v : ℕ) → Taken g taken → c < length g → length g ≤ max_cells → 0 < v
+pub taken_put : (g taken : List ℕ) (c v : ℕ) → Taken g taken → c < length g → 0 < v
     → Taken (set g c v) (set taken (c / 64) (bit_or (get_or taken (c / 64) 0) (1 * 2 ^ (c % 64) % 2 ^ 64)))
-taken_put g taken c v s l few p =
-    taken_more taken c (omega (arith, s.size)) g (set g c v) s (λ z. omega (arith, get_or-set_same g c v 0 l)) (λ e n. get_or-set_other g c e v 0 n)
+taken_put g taken c v s l p =
+    taken_more taken c (omega (arith, s.size, s.few)) g (set g c v) (simp length-set s.few) s (λ z. omega (arith, get_or-set_same g c v 0 l)) (λ e n. get_or-set_other g c e v 0 n)

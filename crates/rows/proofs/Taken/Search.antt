@@ -11,10 +11,9 @@ use borrow.Author.Tests.{lt-ltb, le-ltb}
 use Rattle.lists.proofs.Tests.{le_or_lt}
 use Rattle.vectors.specs.Bits.{bit}
 use Rattle.rows.specs.Care.{Care}
-use Rattle.rows.specs.Fit.{inside, clear, reach, first_fit}
+use Rattle.rows.specs.Fit.{inside, clear, reach, first_fit, At, None}
 use Rattle.rows.specs.Inner.Chains.{top_from, top_of, fit_at}
 use Rattle.rows.specs.Inner.Taken.{taken_cells, Taken, shut_row}
-use Rattle.rows.specs.declared.Fit.TheVariants.{At, None}
 use Rattle.rows.proofs.Fits.First.{fits_out, fits_shut, fit_none_is}
 use Rattle.rows.proofs.Fits.Needed.{Shut, FirstFree, clear_past, needed_is, fit_enough}
 use Rattle.rows.proofs.Chains.Walks.{inside_yes, inside_no}
@@ -63,9 +62,6 @@ fit_in c d cells l = rw (lt-ltb (c + d) cells l, fit_at)
 pub fit_out : (c d cells : ℕ) → cells ≤ c + d → None (cells - c) (c + d + 1) ≡ fit_at c d cells
 unfolding fit_at
 fit_out c d cells l = rw (le-ltb (c + d) cells l, fit_at)
-
-pub fit_wide : (c d cells : ℕ) → cells ≤ c → None 0 (c + d + 1) ≡ fit_at c d cells
-fit_wide c d cells l = let z : 0 ≡ cells - c = omega arith in ap (λ (t : ℕ). None t (c + d + 1)) z ∙ fit_out c d cells (omega arith)
 
 -- past the cells all are free
 pub past_first : (g : List ℕ) (m : List Care) (d : ℕ) → length g ≤ d → Shut g m d → FirstFree g m d

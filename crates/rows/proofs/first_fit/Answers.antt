@@ -1,4 +1,3 @@
-use Prim.Native.Nat.{◌<◌}
 use native.Mathlib.Omega.{arith}
 use mathlib.Core.Path.{◌≡◌, refl, sym, ap, ◌∙◌}
 use mathlib.Core.Bool.{false}
@@ -6,10 +5,9 @@ use lib.ListN.{length}
 use Rattle.rows.specs.Fit.{first_fit}
 use Rattle.rows.specs.Answer.{unfit}
 use Rattle.rows.proofs.Answers.Unfit.{Fits, fits_are}
-use Rattle.rows.proofs.Answers.Single.{Single, single_unfit, single_none, single_fit_lem, single_chain}
+use Rattle.rows.proofs.Answers.Single.{single_unfit, single_fit_lem, single_empty, single_chain, single_none}
 use Rattle.rows.proofs.first_fit.Goals as goal
-use Rattle.rows.proofs.first_fit.Lts.View
-use Rattle.rows.proofs.first_fit.Goals.{After-head-first, Else-unfit, Else-words-eq1}
+use Rattle.rows.proofs.first_fit.Goals.{Else-unfit, in-Some, in-None}
 
 fit : (e : Else-unfit) → let a = e.args in unfit a.words.now 1 (length a.g.now) 0 ≡ false
 fit e = sym e.unfit.ensures ∙ e.if-unfit.false
@@ -17,24 +15,9 @@ fit e = sym e.unfit.ensures ∙ e.if-unfit.false
 fits : (e : Else-unfit) → let a = e.args in Fits a.words.now 1 (length a.g.now) 0
 fits e = fits_are _ _ _ _ (fit e)
 
-more : (e : Else-words-eq1) → 1 < length e.args.words.now
-more e = omega (arith, (fits (View.up-Else-unfit _ _ _ _ e.before.before)).some, e.if-words-eq1.false)
-
--- the row is one chain
-single : (c : After-head-first) → Single c.args.words.now c.link.new.aux c.head-first.result
-single c =
-    let l = c.link in
-    single_chain _ _ _ _ (more (View.up-Else-words-eq1 _ _ _ _ c.before.before.before.before.before.before.before.before)) l.auto.h (fits (View.up-Else-unfit _ _ _ _ c.before.before.before.before.before.before.before.before.before)).rows_in l.ensures c.head-first.ensures
-
 pub returns-then-unfit : goal.returns-then-unfit
 returns-then-unfit c = record {
   value = single_unfit _ _ (sym c.unfit.ensures ∙ c.if-unfit.true);
-  words_unchanged = refl;
-}
-
-pub returns-then-words-eq1 : goal.returns-then-words-eq1
-returns-then-words-eq1 c = record {
-  value = single_none _ _ (fit (goal.at.returns-then-words-eq1 c).Else-unfit) c.if-words-eq1.true;
   words_unchanged = refl;
 }
 
@@ -50,19 +33,22 @@ take_cells-requires c = record {
   blank = refl;
 }
 
-pub first_fit-fit-requires : goal.first_fit-fit-requires
-first_fit-fit-requires c =
-    let s = single (goal.at.first_fit-fit-requires c).After-head-first in
-    record {
-      linked = c.link.ensures.rises;
-      inside = (s.low, s.high, (fits (goal.at.first_fit-fit-requires c).Else-unfit).cells_few);
-      taken = c.take_cells.ensures;
-    }
+pub unlink-requires : goal.unlink-requires
+unlink-requires c = omega (arith, c.link.auto.aux, (fits (goal.at.unlink-requires c).Else-unfit).some)
 
 pub returns : goal.returns
 returns c =
-    let l = c.link in
+    let e = goal.at.returns c in
+    let f = fit e.Else-unfit in
+    let rows = (fits e.Else-unfit).rows_in in
     record {
-      value = c.first_fit-fit.ensures ∙ ap (first_fit c.args.g.now) (single (goal.at.returns c).After-head-first).row_is ∙ single_fit_lem _ _ (fit (goal.at.returns c).Else-unfit);
-      words_unchanged = c.unlink.ensures ∙ l.ensures.back;
+      value =
+          elim c.match-head.branch [
+            | in-Some w ↦
+                let h = w.in-Some.ensures in
+                rw w.fit-is
+                (w.first_fit-fit.ensures ∙ ap (first_fit c.args.g.now) (single_chain _ _ _ c.link.auto.h rows c.link.ensures _ h.0 h.1) ∙ single_fit_lem _ _ f)
+            | in-None w ↦ rw w.fit-is (single_empty _ _ f (single_none _ _ _ c.link.auto.h rows c.link.ensures w.in-None.ensures))
+          ];
+      words_unchanged = c.unlink.ensures ∙ c.link.ensures.back;
     }

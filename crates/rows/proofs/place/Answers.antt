@@ -40,18 +40,23 @@ place_rows-placed-requires c =
     let f = fits (goal.at.place_rows-placed-requires c).Else-unfit in
     let a = l.auto.aux in
     let k = l.auto.h in record {
-      rises = l.ensures.rises;
-      weighs = l.ensures.weighs;
+      linked = (l.ensures.rises, l.ensures.weighs);
       marked = l.ensures.marked;
-      inside = (omega (arith, a, f.some), omega (arith, a, f.few), omega (arith, a, f.few, f.owner_is), omega (arith, k, f.rows_few), f.cells_few);
+      inside = (omega (arith, a, f.some), omega (arith, a, f.few, f.owner_is), omega (arith, k, f.rows_few));
       taken = c.take_cells.ensures;
       rows = rw (k, l.ensures.cares) f.rows_in;
     }
+
+pub unlink-requires : goal.unlink-requires
+unlink-requires c = omega (arith, c.link.auto.aux, (fits (goal.at.unlink-requires c).Else-unfit).some)
 
 pub returns : goal.returns
 returns c =
     let l = c.link in
     let a = c.args in record {
-      g_after = c.place_rows-placed.ensures ∙ ap₂ (λ (cs : List Care) (n : ℕ). settled a.allowance (map (owned a.owner) cs) n a.g.now) l.ensures.cares l.auto.h ∙ sym (placed_fit _ _ _ _ _ (fit (goal.at.returns c).Else-unfit));
+      g_after =
+          c.place_rows-placed.ensures
+          ∙ ap₂ (λ (cs : List Care) (n : ℕ). settled a.allowance (map (owned a.owner) cs) n a.g.now) l.ensures.cares l.auto.h
+          ∙ sym (placed_fit _ _ _ _ _ (fit (goal.at.returns c).Else-unfit));
       aux_unchanged = c.unlink.ensures ∙ l.ensures.back;
     }

@@ -1,10 +1,12 @@
 -- The words while rows are placed: AUX[i] holds row + 2^12 * column + 2^24 * next + 2^40 * weight of vector i; H[r] holds 2^15 + the first vector of row r until the row is placed, 0 where it is empty.
 use Rattle.std.specs.Prelude.{ℕ, zero, suc, ◌+◌, ◌-◌, ◌*◌, ◌/◌, ◌%◌, ◌^◌, max, ◌≤◌, ◌<◌, ◌≡◌, true, false, cond, List, [], ◌∷◌, map, ltb, leb, length, get_or, set}
+use Rattle.std.specs.Prelude.{Result, Ok, Err}
+use Rattle.lists.specs.Members as Members
 use Rattle.rows.specs.Care.{Care, in_row}
-use Rattle.rows.specs.Fit.{first_fit, put}
+use Rattle.rows.specs.Fit.{first_fit, put, Fit, At, None}
 use Rattle.rows.specs.Answer.{max_places, row_in, care_of, cares_in, owned}
-use Rattle.rows.specs.declared.Fit.{Fit}
-use Rattle.rows.specs.declared.Fit.TheVariants.{At, None}
+use Rattle.rows.specs.declared.Stop.{Stop}
+use Rattle.rows.specs.declared.Stop.TheVariants.{NoFit, Over}
 
 -- ---- a word
 
@@ -52,19 +54,11 @@ Rises b ws = (i : ℕ) → b < i → i < length ws → i < next_in (get_or ws i 
 abbrev pub Weighs : ℕ → List ℕ → Type 0
 Weighs b ws = (i : ℕ) → b < i → i < length ws → weight_in (get_or ws i 0) ≡ length (chain ws i)
 
--- how many vectors there are from j on, by the weight in its word; 0 past the end
-unfoldable pub weight_from : List ℕ → ℕ → ℕ
-weight_from ws j = elim (ltb j (length ws)) [ true ↦ weight_in (get_or ws j 0) | false ↦ 0 ]
-
 -- ---- the marks
 
 -- a row's mark is this and the first of its vectors
 abbrev pub mark_bit : ℕ
 mark_bit = 2 ^ 15
-
--- the vector that a mark stands at
-unfoldable pub head_of : ℕ → ℕ → ℕ
-head_of end x = elim (leb x mark_bit) [ true ↦ end | false ↦ x - mark_bit ]
 
 -- the mark x of a row with the vectors m
 pub data Mark (b : ℕ) (ws : List ℕ) (m : List Care) (x : ℕ) : Type 0 where
@@ -97,12 +91,12 @@ top_of m = top_from 0 m
 unfoldable pub fit_at : ℕ → ℕ → ℕ → Fit
 fit_at t d cells = elim (ltb (t + d) cells) [ true ↦ At d | false ↦ None (cells - t) (t + d + 1) ]
 
--- the row with the vectors m placed at its first fit f; where it has none, nothing is changed
-pub record RowPlaced (m : List Care) (row : ℕ) (h g : List ℕ) (f : Fit) (h' g' : List ℕ) : Type 0 where
-  pub is : f ≡ first_fit g m
-  pub rows_are : (d : ℕ) → f ≡ At d → h' ≡ set h row d
-  pub cells_are : (d : ℕ) → f ≡ At d → g' ≡ put g d m
-  pub kept : (t n : ℕ) → f ≡ None t n → (h' ≡ h) × (g' ≡ g)
+-- the row with the vectors m tried at its first fit, with so many tries before it and an allowance of a: what is answered, and H and G then
+pub data RowTried (m : List Care) (row tries a : ℕ) (h g : List ℕ) (r : Result ℕ Stop) (h' g' : List ℕ) : Type 0 where
+  placed : (d : ℕ) → first_fit g m ≡ At d → h' ≡ set h row d → g' ≡ put g d m → tries + (d + 1) ≤ a → r ≡ Ok (tries + (d + 1)) → RowTried m row tries a h g r h' g'
+  over : (d : ℕ) → first_fit g m ≡ At d → h' ≡ set h row d → g' ≡ put g d m → a < tries + (d + 1) → r ≡ Err (Over row) → RowTried m row tries a h g r h' g'
+  stuck : (t n : ℕ) → first_fit g m ≡ None t n → h' ≡ h → g' ≡ g → tries + t ≤ a → r ≡ Err (NoFit row t n tries) → RowTried m row tries a h g r h' g'
+  stuck_over : (t n : ℕ) → first_fit g m ≡ None t n → h' ≡ h → g' ≡ g → a < tries + t → r ≡ Err (Over row) → RowTried m row tries a h g r h' g'
 
 -- ---- the way back
 
@@ -118,3 +112,8 @@ undone h (c ∷ cs) g = undone h cs (emptied h c g)
 -- the row is one of the rows, and where it is placed its cell is one of the cells
 abbrev pub Within : List ℕ → ℕ → Care → Type 0
 Within h cells c = (c.row < length h) × (get_or h c.row 0 ≤ mark_bit → c.column + get_or h c.row 0 < cells)
+
+-- the rows h and the cells g can be taken back to the cells g₀
+pub record WayBack (ws g₀ h g : List ℕ) : Type 0 where
+  pub within : Members.All (Within h (length g)) (cares_in ws)
+  pub back : undone h (cares_in ws) g ≡ g₀

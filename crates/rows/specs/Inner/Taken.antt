@@ -1,5 +1,5 @@
 -- The cells as bits, 64 to a word, while rows are placed: bit c is 1 where the cell c is taken. Past the cells every cell is free.
-use Rattle.std.specs.Prelude.{ℕ, ◌+◌, ◌*◌, ◌/◌, ◌%◌, max, ◌<◌, ◌≡◌, Bool, true, false, List, [], ◌∷◌, length, get_or}
+use Rattle.std.specs.Prelude.{ℕ, ◌+◌, ◌*◌, ◌/◌, ◌%◌, max, ◌≤◌, ◌<◌, ◌≡◌, Bool, true, false, List, [], ◌∷◌, length, get_or}
 use Rattle.vectors.specs.Bits.{bit}
 use Rattle.vectors.specs.Bounds.{max_cells, max_rows}
 use Rattle.rows.specs.Care.{Care}
@@ -22,8 +22,9 @@ abbrev pub shut_bit : Bool → ℕ
 shut_bit true = 0
 shut_bit false = 1
 
--- what the bit c says of the cells g
+-- the bits say which of the cells g are taken; there are no more cells than have one
 pub record Taken (g taken : List ℕ) : Type 0 where
+  pub few : length g ≤ max_cells
   pub size : length taken ≡ taken_words
   pub bits : (c : ℕ) → c < 64 * taken_words → bit_in taken c ≡ shut_bit (is_free g c)
 

@@ -1,14 +1,14 @@
 -- A variable that is not faulty is an edge between two nodes; the labels after all of the variables' edges. Assumes nothing.
-use Prim.Native.Nat.{ℕ, zero, suc, ◌+◌, ◌≤◌, ◌<◌}
-use native.Mathlib.Nat.{add-zero, min-eq_left}
+use Prim.Native.Nat.{ℕ, ◌+◌, ◌≤◌, ◌<◌}
+use native.Mathlib.Nat.{min-eq_left}
 use native.Mathlib.Omega.{arith}
-use mathlib.Core.Path.{◌≡◌, refl, sym, ap, ap₂, ◌∙◌}
+use mathlib.Core.Path.{◌≡◌, refl, ap, ap₂, ◌∙◌}
 use mathlib.Core.Bool.{Bool, true, false, cond, ◌||◌}
 use mathlib.Core.List.{List, [], ◌∷◌, ◌++◌, map, append-nil}
 use borrow.Author.Tests.{leb-false, ltb-false, le-ltb}
 use lib.Dec.{eqb, leb, ltb}
 use lib.ListN.{length, get_or, take}
-use Rattle.lists.proofs.Tests.{or_false}
+use Rattle.std.proofs.lemmas.Bool.{or_parts}
 use Rattle.lists.specs.Members.{All}
 use Rattle.vectors.specs.declared.Kind.{Kind}
 use Rattle.vectors.specs.declared.Kind.TheVariants.{One, Two}
@@ -18,6 +18,7 @@ use Rattle.vectors.specs.Variable.{earlier, later, mask_of, faulty, kinds_of}
 use Rattle.span.specs.Within.{place_within, within, inputs_in, kinds_within}
 use Rattle.span.specs.Span.{spans}
 use Rattle.span.specs.Inner.Tags.{nodes_from, merged}
+use Rattle.std.proofs.lemmas.List.FromFn.{length-range_with_len, get_or-range_with_len}
 use Rattle.span.proofs.Spans.{spans_middle}
 use Rattle.span.proofs.Labels.Tied.{pair, length_merged, Tied, tied, tied_merge, tied_start, tied_same}
 
@@ -31,10 +32,10 @@ pub record Edge (n : ℕ) (k : Kind) : Type 0 where
   pub later_in : later k ≤ n
 
 pub edge : (n : ℕ) (k : Kind) → faulty n k ≡ false → Edge n k
-edge n (One i) h = record { earlier_in = omega arith; later_in = ltb-false n i (or_false (eqb i 0) (ltb n i) h).1 }
+edge n (One i) h = record { earlier_in = omega arith; later_in = ltb-false n i (or_parts (eqb i 0) (ltb n i) h).1 }
 edge n (Two i j) h =
-    let f = or_false (eqb i 0 || leb j i) (ltb n j) h in
-    let l : i < j = leb-false j i (or_false (eqb i 0) (leb j i) f.0).1 in
+    let f = or_parts (eqb i 0 || leb j i) (ltb n j) h in
+    let l : i < j = leb-false j i (or_parts (eqb i 0) (leb j i) f.0).1 in
     let m : j ≤ n = ltb-false n j f.1 in
     record { earlier_in = omega arith; later_in = m }
 
@@ -104,14 +105,11 @@ tied_kinds n (k ∷ ks) ms c f l t =
 
 pub length_nodes : (d s : ℕ) → length (nodes_from d s) ≡ d
 unfolding nodes_from
-length_nodes zero s = refl
-length_nodes (suc d) s = ap suc (length_nodes d (suc s))
+length_nodes d s = length-range_with_len s d
 
 pub nodes_at : (d s v : ℕ) → v < d → get_or (nodes_from d s) v 0 ≡ s + v
 unfolding nodes_from
-nodes_at zero s v h = absurd (omega arith)
-nodes_at (suc d) s zero h = sym (add-zero s)
-nodes_at (suc d) s (suc v) h = nodes_at d (suc s) v (omega arith) ∙ omega arith
+nodes_at d s v h = get_or-range_with_len s d v 0 h
 
 pub tied_nodes : (d : ℕ) → Tied [] (nodes_from d 0)
 tied_nodes d = tied_start (nodes_from d 0) (λ v h. nodes_at d 0 v (rw (length_nodes d 0) at h) ∙ omega arith)

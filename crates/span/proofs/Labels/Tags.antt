@@ -9,7 +9,8 @@ use lib.Bits.{bit_xor, xor_zero_r}
 use lib.Dec.{eqb}
 use lib.ListN
 use lib.ListN.{length, get_or, length-map}
-use Rattle.lists.proofs.Entries.Members.{get_d_map, map_map}
+use Rattle.std.proofs.lemmas.List.{get_or-map}
+use Rattle.lists.proofs.Entries.Members.{map_map}
 use Rattle.vectors.specs.declared.Kind.{Kind}
 use Rattle.vectors.specs.Variable.{earlier, later}
 use Rattle.vectors.proofs.Bits.Laws.{xor_half, xor_low}
@@ -126,7 +127,7 @@ module _ (c : List ℕ) (a b v : ℕ) where
   turned = map (turn (get_or c a 0 / 2) (bit_xor (bit_xor (get_or c a 0) (get_or c b 0)) v)) c
 
   turned_at : (u : ℕ) → u < length c → get_or turned u 0 ≡ turn (get_or c a 0 / 2) (bit_xor (bit_xor (get_or c a 0) (get_or c b 0)) v) (get_or c u 0)
-  turned_at u h = get_d_map (turn (get_or c a 0 / 2) (bit_xor (bit_xor (get_or c a 0) (get_or c b 0)) v)) c u 0 0 h
+  turned_at u h = get_or-map (turn (get_or c a 0 / 2) (bit_xor (bit_xor (get_or c a 0) (get_or c b 0)) v)) c u 0 0 h
 
   pub says_keep : (u w z : ℕ) → u < length c → w < length c → Says c u w z → Says (joined c a b v) u w z
   says_keep u w z hu hw s = go (met c a b)

@@ -9,7 +9,8 @@ use borrow.Author.Tests.{eqb-true, eqb-false, eq-eqb}
 use lib.Dec.{eqb}
 use lib.Bits.{bit_xor, xor_comm, xor_self, xor_zero_r}
 use lib.ListN.{length, get_or, length-map}
-use Rattle.lists.proofs.Entries.Members.{get_d_map, map_map}
+use Rattle.std.proofs.lemmas.List.{get_or-map}
+use Rattle.lists.proofs.Entries.Members.{map_map}
 use Rattle.vectors.specs.Bits.{place_of}
 use Rattle.span.specs.Span.{spans}
 use Rattle.span.specs.Inner.Tags.{relabel, merged}
@@ -24,7 +25,7 @@ pub length_merged : (c : List ℕ) (a b : ℕ) → length (merged c a b) ≡ len
 length_merged c a b = length-map c (relabel (get_or c a 0) (get_or c b 0))
 
 pub merged_at : (c : List ℕ) (a b u : ℕ) → u < length c → get_or (merged c a b) u 0 ≡ relabel (get_or c a 0) (get_or c b 0) (get_or c u 0)
-merged_at c a b u h = get_d_map (relabel (get_or c a 0) (get_or c b 0)) c u 0 0 h
+merged_at c a b u h = get_or-map (relabel (get_or c a 0) (get_or c b 0)) c u 0 0 h
 
 pub relabel_from : (p q : ℕ) → relabel p q p ≡ q
 relabel_from p q = rw (eq-eqb p p refl)
@@ -58,7 +59,7 @@ colour_node g (c ∷ cs) zero h = (colour_linear g (c ∷ cs)).zero ∙ sym (twi
 colour_node g (c ∷ cs) (suc i) h =
     parity_bit (numeral (map (λ (l : ℕ). g l + g c) cs)) i
     ∙ numeral_bit (map (λ (l : ℕ). g l + g c) cs) i
-    ∙ ap (λ (n : ℕ). n % 2) (get_d_map (λ (l : ℕ). g l + g c) cs i 0 0 (omega arith))
+    ∙ ap (λ (n : ℕ). n % 2) (get_or-map (λ (l : ℕ). g l + g c) cs i 0 0 (omega arith))
 
 -- what two sums share falls out
 pub shared_out : (a b z : ℕ) → ((a + z) % 2 + (b + z) % 2) % 2 ≡ (a + b) % 2

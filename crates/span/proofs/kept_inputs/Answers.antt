@@ -12,6 +12,6 @@ use Rattle.span.proofs.kept_inputs.Goals as goal
 pub returns : goal.returns
 returns c =
     let a = c.args in
-    c.by_inputs.ensures.0 ∙ rw (c.least.ensures, c.by_variables-w.ensures.1)
+    c.by_inputs.ensures.0 ∙ rw (c.min.ensures, c.by_variables-w.ensures.1)
     (kept_read (inputs_in a.n) (kinds_within a.n a.p a.variables) 0 (max_inputs + 1)
     (edges_within (inputs_in a.n) (kinds_of (take a.p a.variables))) (omega arith))

@@ -2,13 +2,13 @@
 -- and its parity, what it is apart by from the label's node. Joined nodes have one label.
 use Rattle.std.specs.Prelude.{ℕ, zero, suc, ◌+◌, ◌*◌, ◌/◌, ◌%◌, Bool, cond, List, [], ◌∷◌, map, eqb, get_or}
 use Rattle.std.specs.Int.Bits.{bit_xor}
+use Rattle.std.specs.List.{range_with_len}
 use Rattle.vectors.specs.declared.Kind.{Kind}
 use Rattle.vectors.specs.Variable.{earlier, later}
 
 -- d nodes from s on, each its own label
 unfoldable pub nodes_from : ℕ → ℕ → List ℕ
-nodes_from zero s = []
-nodes_from (suc d) s = s ∷ nodes_from d (suc s)
+nodes_from d s = range_with_len s d
 
 abbrev pub start_tags : ℕ → List ℕ
 start_tags d = map (λ (x : ℕ). 2 * x) (nodes_from d 0)
@@ -60,9 +60,3 @@ kept_on (suc d) j c = cond (eqb (get_or c (suc j) 0) (get_or c 0 0)) 0 1 + 2 * k
 unfoldable pub read_off : ℕ → ℕ → List ℕ → ℕ
 read_off zero j c = 0
 read_off (suc d) j c = (get_or c (suc j) 0 + get_or c 0 0) % 2 + 2 * read_off d (suc j) c
-
--- ---- the first variable inside a component
-
--- first, or the number i of a variable whose ends had met, where there is none yet
-abbrev pub noted : ℕ → Bool → ℕ → ℕ
-noted first inside i = cond inside (cond (eqb first 0) i first) first

@@ -6,13 +6,13 @@ use mathlib.Core.List.{List, [], ◌∷◌, ◌++◌}
 use lib.ListN.{length, take}
 use Rattle.vectors.specs.declared.Kind.{Kind}
 use Rattle.vectors.specs.Variable.{kinds_of}
-use Rattle.rows.specs.declared.End.{End}
-use Rattle.rows.specs.declared.End.TheVariants as ends
+use Rattle.rows.specs.End.{End}
+use Rattle.rows.specs.End as ends
 use Rattle.rows.specs.Place.{Placing}
 use Rattle.rows.specs.Allowance.{tries_made, end_within}
 use Rattle.rows.proofs.Placing.Allowed.{within_all, within_stuck}
 use Rattle.record.specs.Tables.{Tables}
-use Rattle.build.specs.declared.Refusal.{Refusal}
+use Rattle.build.specs.Built.{Refusal}
 use Rattle.build.specs.Refusals.{accepted, or_else, ladder, list_checks, given_checks, check2_chosen, check2_given, check11, check12}
 use Rattle.build.specs.Build.{rows_share, placing_of, outcome, chosen_kinds, chosen_refusal, given_refusal, build_chosen, build_given}
 use Rattle.build.proofs.Refusing.Ladder.{ladder_append, or_given, or_passed, refusal_of}

@@ -20,10 +20,10 @@ use Rattle.record.specs.Tables.{Tables}
 use Rattle.record.specs.Leads.{word_in, cell_in}
 use Rattle.record.specs.Formed.{well_formed, sound}
 use Rattle.build.specs.Build.{build_chosen, build_given}
-use Rattle.lookup.specs.declared.Found.{Found}
+use Rattle.lookup.specs.Lookup.{Found}
 use Rattle.lookup.specs.Lookup.{found, not_found, compared, answer, lookup_of}
 use Rattle.lookup.proofs.Lookups.{answer_out, answer_in, compared_none, compared_above, compared_other, compared_same, lookup_unformed, lookup_beyond, lookup_answer}
-use Rattle.recover.specs.declared.Recovered.{Recovered}
+use Rattle.recover.specs.Recover.{Recovered}
 use Rattle.recover.specs.Recover.{recovered, not_recovered, first_cell, fixes, vector_at, from_cell, recover_of}
 use Rattle.recover.proofs.Recovery.{recover_unformed, recover_outside, recover_from}
 use Rattle.unit.specs.Demand1.{Gives, cause, Outside, Formed, Sound, lookup_causes, FirstCell, displacement_at, Unread, recovery_causes, Demand1Lookup, Demand1Recovery, Demand1All}

@@ -5,7 +5,7 @@ use mathlib.Core.Path.{◌≡◌, refl, sym, ◌∙◌}
 use mathlib.Core.Bool.{Bool, true, false}
 use mathlib.Core.List.{List, [], ◌∷◌, ◌++◌}
 use mathlib.Core.Logic.{inl, inr}
-use Rattle.build.specs.declared.Refusal.{Refusal}
+use Rattle.build.specs.Built.{Refusal}
 use Rattle.build.specs.Refusals.{refuse_if, refuse_at, or_else, ladder}
 use Rattle.unit.specs.Demand1.{Cause, Gives, cause}
 

@@ -17,8 +17,8 @@ use Rattle.rows.specs.Care.{Care, in_row}
 use Rattle.rows.specs.Fit.{cell_of, inside, put}
 use Rattle.rows.specs.Place.{State, place}
 use Rattle.rows.specs.Allowance.{last_tries, tries_made, end_within}
-use Rattle.rows.specs.declared.End.{End}
-use Rattle.rows.specs.declared.End.TheVariants as ends
+use Rattle.rows.specs.End.{End}
+use Rattle.rows.specs.End as ends
 use Rattle.rows.proofs.Fits.First.{fit_at, fit_none}
 use Rattle.rows.proofs.Placing.Open.{open_is}
 use Rattle.rows.proofs.Placing.Turns.{ended}

@@ -11,11 +11,10 @@ use borrow.Author.Tests.{ltb-false, eqb-false}
 use Rattle.lists.proofs.Tests.{and_false, le_or_lt}
 use Rattle.vectors.specs.declared.Kind.{Kind}
 use Rattle.rows.specs.Care.{Care, in_row, weight_of, open_weight}
-use Rattle.rows.specs.Fit.{cell_of, is_free, inside, clear, fits_at, put, first_fit}
+use Rattle.rows.specs.Fit.{cell_of, is_free, inside, clear, fits_at, put, first_fit, At}
 use Rattle.rows.specs.Place.{State, place_row, place}
 use Rattle.rows.specs.Demand.{Ahead}
-use Rattle.rows.specs.declared.End.TheVariants.{All, NoFit}
-use Rattle.rows.specs.declared.Fit.TheVariants.{At}
+use Rattle.rows.specs.End.{All, NoFit}
 use Rattle.rows.proofs.Fits.First.{FirstAt, fit_at, fit_none}
 use Rattle.rows.proofs.Fits.Cells.{fits_free}
 use Rattle.rows.proofs.Placing.Open.{open_is, open_not, open_weight_lem}

@@ -153,10 +153,6 @@ pub input_lt : (x i : ℕ) → input x i < 2
 input_lt x zero = zero-lt-suc 1
 input_lt x (suc i) = mod-lt (x / 2 ^ i) (zero-lt-suc 1)
 
-pub input_bit : (x i : ℕ) → 0 < i → bit x (i - 1) ≡ input x i
-input_bit x zero h = absurd (omega arith)
-input_bit x (suc i) h = let e : suc i - 1 ≡ i = omega arith in ap (bit x) e
-
 pub ones_place : (x i : ℕ) → ones (bit_and x (place_of i)) ≡ input x i
 unfolding ones
 ones_place x zero = ap ones (and_zero_r x)

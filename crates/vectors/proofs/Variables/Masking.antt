@@ -1,11 +1,12 @@
 -- Masks stand for variables: the numbers that they make of a word, and the loops over them. Assumes nothing.
-use Rattle.std.proofs.Common.{◌≡◌, ℕ, suc, ◌+◌, ◌-◌, ◌*◌, ◌%◌, ◌^◌, ◌<◌, ◌≤◌, min, List, [], ◌∷◌, ◌++◌, map, length, get_or, take, drop, set, replicate, sym, refl, ap, ◌∙◌, ap₂, lt_of_lt_of_le, mod-eq_of_lt, mul_assoc, mul_comm, pow-suc, arith, length-drop, length-take-le, drop-cons, take_at, pow_mono, pow-add}
+use Rattle.std.proofs.lemmas.List.{take_more}
+use Rattle.std.proofs.Common.{◌≡◌, ℕ, suc, ◌+◌, ◌-◌, ◌*◌, ◌%◌, ◌^◌, ◌<◌, ◌≤◌, min, List, [], ◌∷◌, ◌++◌, map, length, get_or, take, set, replicate, sym, refl, ap, ◌∙◌, ap₂, lt_of_lt_of_le, mod-eq_of_lt, mul_assoc, pow-suc, arith, append-nil, append_assoc, length-take, length-take-le, take_at, pow_mono, pow-add}
 use mathlib.Core.List.{map-append}
 use lib.Count.{ones}
 use lib.ListN.{length-map}
-use lib.Seq.{drop-length, set_at, append_snoc, take-append-le}
+use lib.Seq.{take_all, set_at, append_snoc, take-append-le}
 use Rattle.lists.specs.Members.{All}
-use Rattle.lists.proofs.Entries.Members.{map_same, map_take, take_more}
+use Rattle.lists.proofs.Entries.Members.{map_same, map_take}
 use Rattle.lists.proofs.Entries.Parts.{take_least}
 use Rattle.vectors.specs.declared.Kind.{Kind}
 use Rattle.vectors.specs.declared.Variable.{Variable}
@@ -34,32 +35,34 @@ unfolding number_by
 number_lt [] x = omega arith
 number_lt (m ∷ ms) x = rw (pow-suc 2 (length ms)) (omega (arith, number_lt ms x, value_lt m x))
 
--- ---- a number made from the last mask to the first: with those from i on
+-- ---- a number made from the last mask to the first: those of rest are still to come
 
-pub number_end : (ms : List ℕ) (x : ℕ) → 0 ≡ number_by (drop (length ms) ms) x
+pub record Numbering (ms : List ℕ) (x : ℕ) (rest : List ℕ) (r : ℕ) : Type 0 where
+  pub passed : List ℕ
+  pub whole : ms ≡ rest ++ passed
+  pub number : r ≡ number_by passed x % 2 ^ max_inputs
+
+pub numbering_none : (ms : List ℕ) (x : ℕ) → Numbering ms x ms 0
 unfolding number_by
-number_end ms x = rw (drop-length ms)
+numbering_none ms x = record { passed = []; whole = sym (append-nil ms); number = refl }
 
 -- the word that a number wraps to, with one mask more
-pub number_turn : (ms : List ℕ) (x i r v : ℕ) → 0 < i → i ≤ length ms → r ≡ number_by (drop i ms) x % 2 ^ max_inputs → v ≡ value_by (get_or ms (i - 1) 0) x
-    → r * 2 ^ 1 % 2 ^ max_inputs + v ≡ number_by (drop (i - 1) ms) x % 2 ^ max_inputs
+pub numbering_more : {ms rest : List ℕ} {x r : ℕ} (rest' : List ℕ) (m v : ℕ) → rest ≡ rest' ++ (m ∷ []) → v ≡ value_by m x → Numbering ms x rest r
+    → Numbering ms x rest' (r * 2 % 2 ^ max_inputs + v)
 unfolding number_by
-number_turn ms x i r v p h e f =
-    let s : suc (i - 1) ≡ i = omega arith in
-    let d : drop (i - 1) ms ≡ get_or ms (i - 1) 0 ∷ drop i ms =
-    drop-cons ms (i - 1) 0 (omega arith) ∙ ap (λ (j : ℕ). get_or ms (i - 1) 0 ∷ drop j ms) s in
-    rw d (shifted r v (number_by (drop i ms) x) e (omega (arith, value_lt (get_or ms (i - 1) 0) x)) ∙ ap (λ (b : ℕ). (b + 2 * number_by (drop i ms) x) % 2 ^ max_inputs) f)
+numbering_more {x = x} {r = r} rest' m v e f n =
+    record {
+      passed = m ∷ n.passed;
+      whole = n.whole ∙ ap (λ (t : List ℕ). t ++ n.passed) e ∙ append_assoc rest' (m ∷ []) n.passed;
+      number = shifted r v (number_by n.passed x) n.number (omega (arith, value_lt m x)) ∙ ap (λ (b : ℕ). (b + 2 * number_by n.passed x) % 2 ^ max_inputs) f;
+    }
   where
-    shifted : (r v m : ℕ) → r ≡ m % 2 ^ max_inputs → v < 2 → r * 2 ^ 1 % 2 ^ max_inputs + v ≡ (v + 2 * m) % 2 ^ max_inputs
+    shifted : (r v m : ℕ) → r ≡ m % 2 ^ max_inputs → v < 2 → r * 2 % 2 ^ max_inputs + v ≡ (v + 2 * m) % 2 ^ max_inputs
     shifted r v m e h = omega arith
 
 -- as many masks as a word has bits make a number that fits
 pub number_fits : (ms : List ℕ) (x : ℕ) → length ms ≤ max_inputs → number_by ms x % 2 ^ max_inputs ≡ number_by ms x
 number_fits ms x h = mod-eq_of_lt (lt_of_lt_of_le (number_lt ms x) (pow_mono {i = length ms} {j = max_inputs} h))
-
-pub number_low : (ms : List ℕ) (x i : ℕ) → length ms ≤ max_variables → number_by (drop i ms) x < 2 ^ max_variables
-number_low ms x i h =
-    lt_of_lt_of_le (number_lt (drop i ms) x) (pow_mono {i = length (drop i ms)} {j = max_variables} (omega (arith, length-drop i ms)))
 
 pub number_side : (ms : List ℕ) (x : ℕ) → length ms ≤ max_side → number_by ms x < 2 ^ max_side
 number_side ms x h = lt_of_lt_of_le (number_lt ms x) (pow_mono {i = length ms} {j = max_side} h)
@@ -69,17 +72,14 @@ number_side ms x h = lt_of_lt_of_le (number_lt ms x) (pow_mono {i = length ms} {
 pub masks_length : (ks : List Kind) → length (masks_of ks) ≡ length ks
 masks_length ks = length-map ks (λ (k : Kind). mask_of k % 2 ^ max_inputs)
 
-pub masking_none : (vs : List Variable) → replicate max_variables 0 ≡ masks_in 0 vs
-masking_none vs = refl
-
-pub masking_more : (vs : List Variable) (m : List ℕ) (i v : ℕ) (d : Variable) → length vs ≡ max_variables → i < max_variables → v ≡ mask_of (get_or vs i d).kind % 2 ^ max_inputs
-    → m ≡ masks_in i vs → set m i v ≡ masks_in (i + 1) vs
+pub masking_more : (vs : List Variable) (m : List ℕ) (i v : ℕ) (d : Variable) → length vs ≤ max_variables → i < length vs
+    → v ≡ mask_of (get_or vs i d).kind % 2 ^ max_inputs → m ≡ masks_in i vs → set m i v ≡ masks_in (i + 1) vs
 masking_more vs m i v d n h e s =
     let old : List ℕ = masks_of (kinds_of (take i vs)) in
     let l : length old ≡ i = masks_length (kinds_of (take i vs)) ∙ kinds_length vs i (omega arith) in
     let z : max_variables - i ≡ suc (max_variables - (i + 1)) = omega arith in
     let k : masks_of (kinds_of (take (i + 1) vs)) ≡ old ++ (v ∷ []) =
-    ap (λ (t : List Variable). masks_of (kinds_of t)) (take_more vs i d (omega arith))
+    ap (λ (t : List Variable). masks_of (kinds_of t)) (take_more vs i d h)
     ∙ ap masks_of (map-append (λ (u : Variable). u.kind) (take i vs) (get_or vs i d ∷ []))
     ∙ map-append (λ (u : Kind). mask_of u % 2 ^ max_inputs) (kinds_of (take i vs)) ((get_or vs i d).kind ∷ [])
     ∙ ap (λ (w : ℕ). old ++ (w ∷ [])) (sym e) in
@@ -87,10 +87,12 @@ masking_more vs m i v d n h e s =
     ∙ set_at old 0 (replicate (max_variables - (i + 1)) 0) v i l
     ∙ sym (ap (λ (t : List ℕ). t ++ replicate (max_variables - (i + 1)) 0) k ∙ append_snoc old v (replicate (max_variables - (i + 1)) 0))
 
-pub masking_end : (vs : List Variable) (p : ℕ) → length vs ≡ max_variables → masks_in (min p max_variables) vs ≡ masks_in p vs
-masking_end vs p n =
-    let d : max_variables - min p max_variables ≡ max_variables - p = omega arith in
-    ap₂ (λ (t : List Variable) (r : ℕ). masks_of (kinds_of t) ++ replicate r 0) (take_least p vs max_variables n) d
+-- those of as many as are asked for, but no more than there are
+pub masking_end : (vs : List Variable) (p q i : ℕ) → length vs ≡ max_variables → q ≡ min p max_variables → i ≡ length (take q vs) → masks_in i (take q vs) ≡ masks_in p vs
+masking_end vs p q i n e f =
+    let d : max_variables - i ≡ max_variables - p = omega (arith, length-take q vs) in
+    let t : take q vs ≡ take p vs = rw e (take_least p vs max_variables n) in
+    ap₂ (λ (t : List Variable) (r : ℕ). masks_of (kinds_of t) ++ replicate r 0) (take_all i (take q vs) (omega arith) ∙ t) d
 
 -- the masks of the first n1 of p variables, and those from n1 on
 pub masks_first : (vs : List Variable) (p n1 : ℕ) → p ≤ length vs → n1 ≤ p → take n1 (masks_in p vs) ≡ masks_of (take n1 (kinds_of (take p vs)))
@@ -105,16 +107,6 @@ masks_all vs p h =
     take_at (masks_of ks) (replicate (max_variables - p) 0) p (masks_length ks ∙ kinds_length vs p h)
 
 -- ---- the comparison word
-
--- the sum that the code makes wraps as the word does
-pub word_wraps : (ms : List ℕ) (kept x a b : ℕ) → a ≡ number_by ms x % 2 ^ max_inputs → b ≡ pack_in max_inputs kept x
-    → (a + b * 2 ^ length ms % 2 ^ max_inputs) % 2 ^ max_inputs ≡ word_by ms kept x % 2 ^ max_inputs
-word_wraps ms kept x a b e f =
-    wrapped a (number_by ms x) (b * 2 ^ length ms) e
-    ∙ ap (λ (v : ℕ). (number_by ms x + v) % 2 ^ max_inputs) (mul_comm b (2 ^ length ms) ∙ ap (λ (v : ℕ). 2 ^ length ms * v) f)
-  where
-    wrapped : (a m v : ℕ) → a ≡ m % 2 ^ max_inputs → (a + v % 2 ^ max_inputs) % 2 ^ max_inputs ≡ (m + v) % 2 ^ max_inputs
-    wrapped a m v e = omega arith
 
 -- with as many row variables as a word has bits there is no room for the kept inputs
 pub word_full : (ms : List ℕ) (kept x a : ℕ) → max_inputs ≤ length ms → a ≡ number_by ms x % 2 ^ max_inputs → a ≡ word_by ms kept x % 2 ^ max_inputs

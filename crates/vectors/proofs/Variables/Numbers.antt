@@ -1,4 +1,5 @@
 -- Values of variables as counts of ones, and the number that variables make of a vector. Assumes nothing.
+use Rattle.std.proofs.lemmas.List.{get_or-map}
 use Rattle.std.proofs.Common.{◌≡◌, ℕ, zero, suc, ◌+◌, ◌-◌, ◌*◌, ◌/◌, ◌%◌, ◌^◌, ◌<◌, ◌≤◌, min, List, [], ◌∷◌, ◌++◌, length, get_or, take, drop, sym, refl, ap, ◌∙◌, ap₂, mod-lt, zero-lt-suc, mul_assoc, mul_comm, one-mul, pow-suc, zero-add, arith, length-drop, take-append-drop, length-take, length-take-le, get_or-take}
 use native.Mathlib.Nat.{mod-mod, min-eq_left}
 use lib.Arith.{digits_div, digits_mod}
@@ -6,7 +7,6 @@ use lib.Bits.{bit_and}
 use lib.Count.{ones}
 use lib.ListN.{length-map}
 use lib.Seq.{slice, slice-cons, slice_empty, length-slice}
-use Rattle.lists.proofs.Entries.Members.{get_d_map}
 use Rattle.vectors.specs.declared.Kind.{Kind}
 use Rattle.vectors.specs.declared.Kind.TheVariants.{One, Two}
 use Rattle.vectors.specs.declared.Variable.{Variable}
@@ -96,7 +96,7 @@ kinds_many p vs = length-map (take p vs) (λ v. v.kind) ∙ length-take p vs
 
 pub kinds_at : (vs : List Variable) (p i : ℕ) (d : Variable) (e : Kind) → i < p → i < length vs → get_or (kinds_of (take p vs)) i e ≡ (get_or vs i d).kind
 kinds_at vs p i d e h l =
-    get_d_map (λ v. v.kind) (take p vs) i d e (omega (arith, length-take p vs)) ∙ ap (λ v. v.kind) (get_or-take p vs i d h)
+    get_or-map (λ v. v.kind) (take p vs) i d e (omega (arith, length-take p vs)) ∙ ap (λ v. v.kind) (get_or-take p vs i d h)
 
 pub kinds_length : (vs : List Variable) (p : ℕ) → p ≤ length vs → length (kinds_of (take p vs)) ≡ p
 kinds_length vs p h = kinds_many p vs ∙ min-eq_left h

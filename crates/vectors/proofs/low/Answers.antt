@@ -1,15 +1,9 @@
-use Rattle.std.proofs.Common.{◌≡◌, ℕ, ◌*◌, ◌%◌, ◌^◌, ◌<◌, sym, ap, ◌∙◌, lt_of_lt_of_le, mod-eq_of_lt, one-mul, arith, pow_pos, pow_mono, shl_exact}
+use Rattle.std.proofs.Common.{◌≡◌, ℕ, ◌*◌, ◌%◌, ◌^◌, ◌<◌, sym, ◌∙◌, lt_of_lt_of_le, mod-eq_of_lt, one-mul, arith, pow_mono, shl_exact}
 use Rattle.vectors.specs.Bounds.{max_inputs}
 use Rattle.vectors.proofs.low.Goals as goal
 
 power : (n : ℕ) → n < max_inputs → 1 * 2 ^ n % 2 ^ max_inputs ≡ 2 ^ n
 power n h = shl_exact 1 n max_inputs (omega arith) (omega arith) ∙ one-mul (2 ^ n)
-
-pub nonzero_rem-result : goal.nonzero_rem-result
-nonzero_rem-result c = omega (arith, power c.args.n c.if-n.true, pow_pos c.args.n)
-
-pub returns-then-n : goal.returns-then-n
-returns-then-n c = ap (λ (d : ℕ). c.args.y % d) (power c.args.n c.if-n.true)
 
 pub returns-else-n : goal.returns-else-n
 returns-else-n c =

@@ -1,15 +1,9 @@
-use Rattle.std.proofs.Common.{◌%◌, ◌^◌, sym, ap, ◌∙◌, ap₂}
+use Rattle.std.proofs.Common.{sym, ◌∙◌, ap₂}
 use lib.Bits.{bit_xor, xor_mod}
 use Rattle.vectors.specs.Bits.{place_of}
-use Rattle.vectors.specs.declared.Kind.{Kind}
-use Rattle.vectors.specs.Variable.{mask_of}
 use Rattle.vectors.specs.Bounds.{max_inputs}
 use Rattle.vectors.proofs.mask.Goals as goal
 
-pub returns-in-One : goal.returns-in-One
-returns-in-One c = c.place.ensures ∙ ap (λ (k : Kind). mask_of k % 2 ^ max_inputs) (sym c.in-One.is)
-
 pub returns-in-Two : goal.returns-in-Two
 returns-in-Two c =
-    ap₂ bit_xor c.place-in-Two.ensures c.place-in-Two-2.ensures ∙ sym (xor_mod (place_of c.in-Two.i) (place_of c.in-Two.j) max_inputs)
-    ∙ ap (λ (k : Kind). mask_of k % 2 ^ max_inputs) (sym c.in-Two.is)
+    rw c.in-Two.is (ap₂ bit_xor c.place-in-Two.ensures c.place-in-Two-2.ensures ∙ sym (xor_mod (place_of c.in-Two.i) (place_of c.in-Two.j) max_inputs))

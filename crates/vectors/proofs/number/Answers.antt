@@ -1,19 +1,8 @@
-use Rattle.std.proofs.Common.{◌≡◌, ◌%◌, ◌^◌, ap, arith}
-use Rattle.vectors.specs.Bounds.{max_inputs}
-use Rattle.vectors.proofs.Variables.Masking.{number_end, number_turn}
+use Rattle.vectors.proofs.Variables.Masking.{numbering_none, numbering_more}
 use Rattle.vectors.proofs.number.Goals as goal
 
-pub loop-i-init : goal.loop-i-init
-loop-i-init c = (omega arith, ap (λ m. m % 2 ^ max_inputs) (number_end c.args.masks.now c.args.x))
+pub loop-mask-init : goal.loop-mask-init
+loop-mask-init c = rw (c.into_iter-mask-iterator.ensures.into_iter_gives, c.rev-mask-items.ensures.source, c.iter.ensures.rest) (numbering_none _ _)
 
-pub overflow_add-r : goal.overflow_add-r
-overflow_add-r c = omega (arith, c.value.ensures)
-
-pub loop-i-preserved : goal.loop-i-preserved
-loop-i-preserved c =
-    (omega arith, number_turn _ _ c.loop-i.i _ _ (omega arith) c.loop-i.invariant.0 c.loop-i.invariant.1 c.value.ensures)
-
-pub returns : goal.returns
-returns c =
-    let z : c.loop-i.i ≡ 0 = omega arith in
-    rw z at c.loop-i.invariant.1
+pub loop-mask-preserved : goal.loop-mask-preserved
+loop-mask-preserved c = numbering_more _ _ _ c.in-Some.ensures.steps c.value.ensures c.loop-mask.invariant

@@ -1,15 +1,13 @@
-use Rattle.std.proofs.Common.{◌-◌, ◌^◌, sym, ◌∙◌, one-mul, arith, shl_exact}
-use Rattle.vectors.proofs.Bits.Laws.{place_in, place_out}
+use Rattle.std.proofs.lemmas.Bool.{and_cases}
+use Rattle.std.proofs.Common.{◌≡◌, ◌&&◌, false, nat_le, sym, ⊎_elim, leb-false, rules, arith}
+use Rattle.vectors.proofs.Bits.Laws.{place_out}
 use Rattle.vectors.specs.Bounds.{max_inputs}
 use Rattle.vectors.proofs.place.Goals as goal
 
-pub returns-then-i-eq0 : goal.returns-then-i-eq0
-returns-then-i-eq0 c = rw c.if-i-eq0.true
-
-pub returns-then-i-gt-MAX_INPUTS : goal.returns-then-i-gt-MAX_INPUTS
-returns-then-i-gt-MAX_INPUTS c = sym (place_out max_inputs _ c.if-i-gt-MAX_INPUTS.true)
-
-pub returns : goal.returns
-returns c =
+pub returns-else-contains : goal.returns-else-contains
+returns-else-contains c =
     let i = c.args.i in
-    shl_exact {a = 1} 1 (i - 1) max_inputs (omega arith) (omega arith) ∙ one-mul (2 ^ (i - 1)) ∙ sym (place_in max_inputs i (omega arith) (omega arith))
+    let out : (nat_le 1 i && nat_le i max_inputs) ≡ false = search rules in
+    ⊎_elim
+    (λ h. let e : i ≡ 0 = omega (arith, leb-false 1 i h) in rw e)
+    (λ h. sym (place_out max_inputs i (leb-false i max_inputs h))) (and_cases (nat_le 1 i) (nat_le i max_inputs) out)

@@ -1,10 +1,5 @@
-use Rattle.std.proofs.Common.{◌∙◌}
-use Rattle.vectors.proofs.Variables.Masking.{word_wraps, word_full}
+use Rattle.vectors.proofs.Variables.Masking.{word_full}
 use Rattle.vectors.proofs.word.Goals as goal
 
 pub returns-then-rows-ge-MAX_INPUTS : goal.returns-then-rows-ge-MAX_INPUTS
 returns-then-rows-ge-MAX_INPUTS c = word_full _ c.args.kept _ _ c.if-rows-ge-MAX_INPUTS.true c.number-row.ensures
-
-pub returns : goal.returns
-returns c =
-    c.wrapping_add_u64.ensures.value ∙ word_wraps _ _ _ _ _ c.number-row.ensures c.pack.ensures

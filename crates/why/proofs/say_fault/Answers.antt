@@ -1,46 +1,41 @@
 use Prim.Native.Nat.{ℕ}
 use mathlib.Core.List.{List}
 use mathlib.Core.Path.{refl, ap, ◌∙◌}
+use Rattle.std.proofs.Common.{Err}
+use Rattle.fault.specs.Fault.{number_of, told}
+use Rattle.fault.specs.declared.Cause.{Cause}
 use Rattle.why.specs.Why.{form_in, fault_forms, long_form}
-use Rattle.why.proofs.Saying.{form_none, fault_said}
+use Rattle.why.proofs.Saying.{fault_said}
 use Rattle.why.proofs.say_fault.Goals as goal
 
 -- the form of a cause
-abbrev found : ℕ → List ℕ
-found = form_in fault_forms long_form
+abbrev found : Cause → List ℕ
+found cause = form_in fault_forms long_form (number_of cause)
 
-pub returns-in-1 : goal.returns-in-1
+pub returns-in-NoDigit : goal.returns-in-NoDigit
 unfolding form_in
-returns-in-1 c =
-    c.sentence.ensures ∙ fault_said c.args.fault c.args.out.now _ refl (ap found c.in-1.is)
+returns-in-NoDigit c = c.sentence.ensures ∙ fault_said (told (Err c.args.fault)) c.args.out.now _ refl _ c.from.ensures (ap found c.in-NoDigit.is)
 
-pub returns-in-2 : goal.returns-in-2
+pub returns-in-EndBefore : goal.returns-in-EndBefore
 unfolding form_in
-returns-in-2 c =
-    c.sentence-in-2.ensures ∙ fault_said c.args.fault c.args.out.now _ refl (ap found c.in-2.is)
+returns-in-EndBefore c = c.sentence-in-EndBefore.ensures ∙ fault_said (told (Err c.args.fault)) c.args.out.now _ refl _ c.from.ensures (ap found c.in-EndBefore.is)
 
-pub returns-in-3 : goal.returns-in-3
+pub returns-in-OtherByte : goal.returns-in-OtherByte
 unfolding form_in
-returns-in-3 c =
-    c.sentence-in-3.ensures ∙ fault_said c.args.fault c.args.out.now _ refl (ap found c.in-3.is)
+returns-in-OtherByte c = c.sentence-in-OtherByte.ensures ∙ fault_said (told (Err c.args.fault)) c.args.out.now _ refl _ c.from.ensures (ap found c.in-OtherByte.is)
 
-pub returns-in-4 : goal.returns-in-4
+pub returns-in-LargeNumber : goal.returns-in-LargeNumber
 unfolding form_in
-returns-in-4 c =
-    c.sentence-in-4.ensures ∙ fault_said c.args.fault c.args.out.now _ refl (ap found c.in-4.is)
+returns-in-LargeNumber c = c.sentence-in-LargeNumber.ensures ∙ fault_said (told (Err c.args.fault)) c.args.out.now _ refl _ c.from.ensures (ap found c.in-LargeNumber.is)
 
-pub returns-in-5 : goal.returns-in-5
+pub returns-in-FewNumbers : goal.returns-in-FewNumbers
 unfolding form_in
-returns-in-5 c =
-    c.sentence-in-5.ensures ∙ fault_said c.args.fault c.args.out.now _ refl (ap found c.in-5.is)
+returns-in-FewNumbers c = c.sentence-in-FewNumbers.ensures ∙ fault_said (told (Err c.args.fault)) c.args.out.now _ refl _ c.from.ensures (ap found c.in-FewNumbers.is)
 
-pub returns-in-6 : goal.returns-in-6
+pub returns-in-ManyVectors : goal.returns-in-ManyVectors
 unfolding form_in
-returns-in-6 c =
-    c.sentence-in-6.ensures ∙ fault_said c.args.fault c.args.out.now _ refl (ap found c.in-6.is)
+returns-in-ManyVectors c = c.sentence-in-ManyVectors.ensures ∙ fault_said (told (Err c.args.fault)) c.args.out.now _ refl _ c.from.ensures (ap found c.in-ManyVectors.is)
 
-pub returns-in_default : goal.returns-in_default
-returns-in_default c =
-    let r = c.in_default.in_default-own.rest in
-    c.sentence-in_default.ensures
-    ∙ fault_said c.args.fault c.args.out.now _ refl (form_none fault_forms long_form c.args.fault.cause (r.0.0.0.0.0.1, (r.0.0.0.0.1, (r.0.0.0.1, (r.0.0.1, (r.0.1, (r.1, tt)))))))
+pub returns-in-LongText : goal.returns-in-LongText
+unfolding form_in
+returns-in-LongText c = c.sentence-in-LongText.ensures ∙ fault_said (told (Err c.args.fault)) c.args.out.now _ refl _ c.from.ensures (ap found c.in-LongText.is)

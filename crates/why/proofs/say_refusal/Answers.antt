@@ -1,60 +1,60 @@
 use Prim.Native.Nat.{ℕ}
 use mathlib.Core.Path.{refl, ap, ◌∙◌}
 use mathlib.Core.List.{List}
+use Rattle.refusal.specs.declared.Refusal.{Refusal}
+use Rattle.refusal.specs.Refusal.{number_of}
 use Rattle.why.specs.Why.{form_in, built_forms, other_form}
-use Rattle.why.proofs.Saying.{form_none, said}
+use Rattle.why.proofs.Saying.{form_other, said}
 use Rattle.why.proofs.say_refusal.Goals as goal
 
 -- the form of a refusal
-abbrev found : ℕ → List ℕ
-found = form_in built_forms other_form
+abbrev found : Refusal → List ℕ
+found refusal = form_in built_forms other_form (number_of refusal)
 
-pub returns-in-0 : goal.returns-in-0
+pub returns-in-Inputs : goal.returns-in-Inputs
 unfolding form_in
-returns-in-0 c =
-    c.sentence.ensures ∙ said c.args.numbers.now c.args.out.now _ (found c.args.refusal) (ap found c.in-0.is) refl
+returns-in-Inputs c =
+    c.sentence.ensures ∙ said c.args.numbers.now c.args.out.now _ (found c.args.refusal) (ap found c.in-Inputs.is) refl
 
-pub returns-in-1 : goal.returns-in-1
+pub returns-in-Degree : goal.returns-in-Degree
 unfolding form_in
-returns-in-1 c =
-    c.sentence-in-1.ensures ∙ said c.args.numbers.now c.args.out.now _ (found c.args.refusal) (ap found c.in-1.is) refl
+returns-in-Degree c =
+    c.sentence-in-Degree.ensures ∙ said c.args.numbers.now c.args.out.now _ (found c.args.refusal) (ap found c.in-Degree.is) refl
 
-pub returns-in-2 : goal.returns-in-2
+pub returns-in-Vectors : goal.returns-in-Vectors
 unfolding form_in
-returns-in-2 c =
-    c.sentence-in-2.ensures ∙ said c.args.numbers.now c.args.out.now _ (found c.args.refusal) (ap found c.in-2.is) refl
+returns-in-Vectors c =
+    c.sentence-in-Vectors.ensures ∙ said c.args.numbers.now c.args.out.now _ (found c.args.refusal) (ap found c.in-Vectors.is) refl
 
-pub returns-in-3 : goal.returns-in-3
+pub returns-in-Cells : goal.returns-in-Cells
 unfolding form_in
-returns-in-3 c =
-    c.sentence-in-3.ensures ∙ said c.args.numbers.now c.args.out.now _ (found c.args.refusal) (ap found c.in-3.is) refl
+returns-in-Cells c =
+    c.sentence-in-Cells.ensures ∙ said c.args.numbers.now c.args.out.now _ (found c.args.refusal) (ap found c.in-Cells.is) refl
 
-pub returns-in-4 : goal.returns-in-4
+pub returns-in-Beyond : goal.returns-in-Beyond
 unfolding form_in
-returns-in-4 c =
-    c.sentence-in-4.ensures ∙ said c.args.numbers.now c.args.out.now _ (found c.args.refusal) (ap found c.in-4.is) refl
+returns-in-Beyond c =
+    c.sentence-in-Beyond.ensures ∙ said c.args.numbers.now c.args.out.now _ (found c.args.refusal) (ap found c.in-Beyond.is) refl
 
-pub returns-in-6 : goal.returns-in-6
+pub returns-in-Repeated : goal.returns-in-Repeated
 unfolding form_in
-returns-in-6 c =
-    c.sentence-in-6.ensures ∙ said c.args.numbers.now c.args.out.now _ (found c.args.refusal) (ap found c.in-6.is) refl
+returns-in-Repeated c =
+    c.sentence-in-Repeated.ensures ∙ said c.args.numbers.now c.args.out.now _ (found c.args.refusal) (ap found c.in-Repeated.is) refl
 
-pub returns-in-7 : goal.returns-in-7
+pub returns-in-NotApart : goal.returns-in-NotApart
 unfolding form_in
-returns-in-7 c =
-    c.sentence-in-7.ensures ∙ said c.args.numbers.now c.args.out.now _ (found c.args.refusal) (ap found c.in-7.is) refl
+returns-in-NotApart c =
+    c.sentence-in-NotApart.ensures ∙ said c.args.numbers.now c.args.out.now _ (found c.args.refusal) (ap found c.in-NotApart.is) refl
 
-pub returns-in-11 : goal.returns-in-11
+pub returns-in-NoPlace : goal.returns-in-NoPlace
 unfolding form_in
-returns-in-11 c =
-    c.sentence-in-11.ensures ∙ said c.args.numbers.now c.args.out.now _ (found c.args.refusal) (ap found c.in-11.is) refl
-
-pub returns-in-13 : goal.returns-in-13
-unfolding form_in
-returns-in-13 c =
-    c.sentence-in-13.ensures ∙ said c.args.numbers.now c.args.out.now _ (found c.args.refusal) (ap found c.in-13.is) refl
+returns-in-NoPlace c =
+    c.sentence-in-NoPlace.ensures ∙ said c.args.numbers.now c.args.out.now _ (found c.args.refusal) (ap found c.in-NoPlace.is) refl
 
 pub returns-in_default : goal.returns-in_default
 returns-in_default c =
-    let r = c.in_default.in_default-own.rest in
-    c.sentence-in_default.ensures ∙ said c.args.numbers.now c.args.out.now _ (found c.args.refusal) (form_none built_forms other_form c.args.refusal (r.0.0.0.0.0.0.0.0.1, (r.0.0.0.0.0.0.0.1, (r.0.0.0.0.0.0.1, (r.0.0.0.0.0.1, (r.0.0.0.0.1, (r.0.0.0.1, (r.0.0.1, (r.0.1, (r.1, tt)))))))))) refl
+    let d = c.in_default in
+    c.sentence-in_default.ensures
+    ∙ said c.args.numbers.now c.args.out.now _ (found c.args.refusal)
+    (form_other c.args.refusal (record { not_inputs = d.not-Inputs; not_degree = d.not-Degree; not_vectors = d.not-Vectors; not_cells = d.not-Cells; not_beyond = d.not-Beyond; not_repeated = d.not-Repeated; not_apart = d.not-NotApart; placed = d.not-NoPlace }))
+    refl

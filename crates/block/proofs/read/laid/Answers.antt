@@ -1,23 +1,15 @@
-use native.Mathlib.Omega.{arith}
-use mathlib.Core.Path.{sym, ◌∙◌}
-use borrow.Author.Tests.{eq-eqb, ne_eqb}
-use Rattle.block.proofs.Reading.Looks.{laid_short, laid_is}
+use mathlib.Core.Path.{◌≡◌, sym, ap, ◌∙◌}
+use mathlib.Core.Bool.{Bool, ◌&&◌}
+use Rattle.block.specs.Look.{blank_from, laid_out}
+use Rattle.block.proofs.Reading.Looks.{laid_is}
 use Rattle.block.proofs.read.laid.Goals as goal
+use Rattle.block.proofs.read.laid.Goals.{After-starts_with}
 
-pub returns-then-block-lt-PAYLOAD_AT : goal.returns-then-block-lt-PAYLOAD_AT
-returns-then-block-lt-PAYLOAD_AT c = sym (laid_short _ _ _ c.if-block-lt-PAYLOAD_AT.true)
+told : (c : After-starts_with) → laid_out c.args.opening c.args.at c.args.block.now ≡ (c.starts_with.result && blank_from c.args.at c.args.block.now)
+told c = laid_is _ _ _ c.bytes.result c.bytes.ensures ∙ ap (λ (t : Bool). t && blank_from c.args.at c.args.block.now) (sym c.starts_with.ensures.value)
 
-pub returns-then-block-opening : goal.returns-then-block-opening
-returns-then-block-opening c = sym (laid_is _ _ _ (omega arith) ∙ rw (ne_eqb _ _ (λ e. c.if-block-opening.true (sym e))))
+pub returns-then-starts_with : goal.returns-then-starts_with
+returns-then-starts_with c = c.blank.ensures ∙ sym (told (goal.at.returns-then-starts_with c).After-starts_with ∙ rw c.if-starts_with.true)
 
-pub returns-then-block-opening-2 : goal.returns-then-block-opening-2
-returns-then-block-opening-2 c = sym (laid_is _ _ _ (omega arith) ∙ rw (eq-eqb _ _ (sym c.if-block-opening.false), ne_eqb _ _ (λ e. c.if-block-opening-2.true (sym e))))
-
-pub returns-then-block-opening-3 : goal.returns-then-block-opening-3
-returns-then-block-opening-3 c = sym (laid_is _ _ _ (omega arith) ∙ rw (eq-eqb _ _ (sym c.if-block-opening.false), eq-eqb _ _ (sym c.if-block-opening-2.false), ne_eqb _ _ (λ e. c.if-block-opening-3.true (sym e))))
-
-pub returns-then-block-opening-4 : goal.returns-then-block-opening-4
-returns-then-block-opening-4 c = sym (laid_is _ _ _ (omega arith) ∙ rw (eq-eqb _ _ (sym c.if-block-opening.false), eq-eqb _ _ (sym c.if-block-opening-2.false), eq-eqb _ _ (sym c.if-block-opening-3.false), ne_eqb _ _ (λ e. c.if-block-opening-4.true (sym e))))
-
-pub returns : goal.returns
-returns c = c.blank.ensures ∙ sym (laid_is _ _ _ (omega arith) ∙ rw (eq-eqb _ _ (sym c.if-block-opening.false), eq-eqb _ _ (sym c.if-block-opening-2.false), eq-eqb _ _ (sym c.if-block-opening-3.false), eq-eqb _ _ (sym c.if-block-opening-4.false)))
+pub returns-else-starts_with : goal.returns-else-starts_with
+returns-else-starts_with c = c.if-starts_with.false ∙ sym (told (goal.at.returns-else-starts_with c).After-starts_with ∙ rw c.if-starts_with.false)

@@ -6,8 +6,5 @@ use Rattle.block.proofs.read.number.Goals as goal
 pub returns-then-bytes-at : goal.returns-then-bytes-at
 returns-then-bytes-at c = number_none _ _ _ c.if-bytes-at.true
 
-pub word-requires : goal.word-requires
-word-requires c = (omega (arith, c.least.ensures), omega (arith, c.least.ensures, c.least-most.ensures))
-
 pub returns : goal.returns
-returns c = c.word.ensures ∙ number_short _ _ _ _ (omega arith) (omega (arith, c.least.ensures, c.least-most.ensures))
+returns c = c.word.ensures ∙ number_short _ _ _ _ (omega arith) (omega (arith, c.min.ensures, c.min-2.ensures))

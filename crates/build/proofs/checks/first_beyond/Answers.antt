@@ -1,20 +1,14 @@
-use native.Mathlib.Omega.{arith}
-use mathlib.Core.Path.{sym, ◌∙◌}
-use Rattle.lists.proofs.Finding.Firsts.{seek_start, seek_here, seek_on, seek_end}
+use Rattle.std.proofs.Common.{◌≡◌, ℕ, ◌^◌, position, rules, tests, ◌∙◌, ap}
+use lib.Dec.{leb}
+use Rattle.std.proofs.lemmas.Iterator.{YieldsList-from_slice}
+use Rattle.std.proofs.lemmas.Iterator.Search.{position_from_yields_List}
+use Rattle.lists.specs.First.{place_number}
+use Rattle.build.proofs.Refusing.Checks.{beyond_place}
 use Rattle.build.proofs.checks.first_beyond.Goals as goal
 
-pub loop-i-init : goal.loop-i-init
-loop-i-init c = (omega arith, seek_start _ _)
-
-pub returns-then-beyond : goal.returns-then-beyond
-returns-then-beyond c =
-    let l = c.loop-i in
-    seek_here _ _ 0 l.i c.loop-i-test.true l.invariant.1 (sym c.beyond.ensures ∙ c.if-beyond.true)
-
-pub loop-i-preserved : goal.loop-i-preserved
-loop-i-preserved c =
-    let l = c.loop-i in
-    (omega arith, seek_on _ _ 0 l.i c.loop-i-test.true l.invariant.1 (sym c.beyond.ensures ∙ c.if-beyond.false))
-
 pub returns : goal.returns
-returns c = seek_end _ _ c.loop-i.i c.loop-i-test.false c.loop-i.invariant.1
+returns c =
+    let a = c.args in
+    let e : c.position.result ≡ position (λ v. leb (2 ^ a.n) v) a.vectors.now =
+    position_from_yields_List {B = ℕ} (λ v. leb (2 ^ a.n) v) _ _ c.position.result c.position.ensures.ran (YieldsList-from_slice a.vectors.now (cc)) (λ x b q k. search (rules, tests)) in
+    ap place_number e ∙ beyond_place a.n a.vectors.now

@@ -13,15 +13,15 @@ pub returns-then-k-lt2 : goal.returns-then-k-lt2
 returns-then-k-lt2 c = all_none _ _ _ c.if-k-lt2.true (omega arith) (omega arith)
 
 pub loop-i-init : goal.loop-i-init
-loop-i-init c = (omega arith, refl, unfold numbers in refl)
+loop-i-init c = (refl, unfold numbers in refl)
 
 pub loop-i-preserved : goal.loop-i-preserved
 loop-i-preserved c =
     let l = c.loop-i in
-    (omega arith, length-set l.order l.i l.i ∙ l.invariant.1, rw (add-one l.i, take-suc-set l.order l.i l.i (omega arith), l.invariant.2, numbers_more l.i 0, zero-add l.i))
+    (length-set l.order l.i l.i ∙ l.invariant.0, rw (add-one l.i, take-suc-set l.order l.i l.i (omega arith), l.invariant.1, numbers_more l.i 0, zero-add l.i))
 
 pub returns : goal.returns
 returns c =
     let l = c.loop-i in
     let e : l.i ≡ c.args.k = omega arith in
-    all_one _ _ _ c.if-k-lt2.false (rw e at l.invariant.2) refl (omega arith) (omega arith)
+    all_one _ _ _ c.if-k-lt2.false (rw e at l.invariant.1) refl (omega arith) (omega arith)

@@ -1,11 +1,8 @@
-use Prim.Native.Nat.{◌+◌, ◌-◌, ◌≤◌}
+use Prim.Native.Nat.{◌+◌}
 use mathlib.Core.Path.{◌≡◌}
-use lib.ListN.{length, drop}
+use lib.ListN.{drop}
 use Rattle.choice.specs.Inner.Gain.{most_of}
 use Rattle.choice.proofs.judge.most.Given as goal
 
-abbrev pub invariant-loop-g : goal.invariant-loop-g
-invariant-loop-g l = (l.g ≤ length l.sizes) × (l.sum + most_of (drop l.g l.sizes) ≡ most_of l.sizes)
-
-abbrev pub decreases-loop-g : goal.decreases-loop-g
-decreases-loop-g l = length l.sizes - l.g
+abbrev pub invariant-loop-s : goal.invariant-loop-s
+invariant-loop-s l = l.sum + most_of (drop l.s-index l.sizes) ≡ most_of l.sizes

@@ -15,14 +15,14 @@ use Rattle.choice.proofs.lay.lay.Goals.{After-lay_whole-whole}
 
 -- the halves of the large groups and of the small ones
 parts : (c : After-lay_whole-whole)
-    → let a = c.args in
-    most_of (ends_of (cut a.sizes.now a.words.now)) + small_most (cut a.sizes.now a.words.now) ≡ a.most
-parts c = let p = c.requires.grouped in halves _ _ p.0.sum ∙ sym p.1
+    → let g = c.args.groups.now in
+    most_of (ends_of (cut g.sizes.now g.words.now)) + small_most (cut g.sizes.now g.words.now) ≡ c.args.most
+parts c = halves _ _ c.args.groups.now.grouped.sum ∙ sym c.requires.most
 
 low : (c : After-lay_whole-whole) → c.args.most ≤ max_gain
 low c =
-    let p = c.requires.grouped in
-    omega (arith, p.1, halves_low c.args.sizes.now (omega (arith, p.0.sum, p.0.few)))
+    let p = c.args.groups.now.grouped in
+    omega (arith, c.requires.most, halves_low c.args.groups.now.sizes.now (omega (arith, p.sum, p.few)))
 
 -- what a list begins with is no longer than it
 prefix : (r : ℕ) (l m : List ℕ) → take r l ≡ m → r ≡ length m → r ≤ length l
@@ -46,7 +46,6 @@ pub lay_pairs-n-requires : goal.lay_pairs-n-requires
 lay_pairs-n-requires c =
     let w = c.lay_whole-whole.ensures in
     record {
-      grouped = c.requires.grouped.0;
       len = (w.size, w.items_are, ap (λ k. 64 * k) w.whole_is ∙ sym (whole_length _));
       rests_len = (c.requires.len.2, omega (arith, c.most.ensures, ap most_of w.ends_are, parts (goal.at.lay_pairs-n-requires c).After-lay_whole-whole));
     }

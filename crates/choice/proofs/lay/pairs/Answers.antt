@@ -1,5 +1,5 @@
 use native.Mathlib.Omega.{arith}
-use Rattle.choice.proofs.Laying.Pairs.{pairing_none, pairing_more, pairing_room, pairing_part, pairing_end}
+use Rattle.choice.proofs.Laying.Pairs.{pairing_none, pairing_more, pairing_part, pairing_end}
 use Rattle.choice.proofs.lay.pairs.Goals as goal
 
 pub loop-i-init : goal.loop-i-init
@@ -11,7 +11,7 @@ xored-requires c =
 
 pub overflow_add-w : goal.overflow_add-w
 overflow_add-w c =
-    omega (arith, pairing_room _ _ _ 0 c.loop-i.out c.loop-i.w c.loop-i.i c.loop-i-test.true c.loop-i.invariant c.requires, c.loop-i.invariant.size, c.well_formed.1.0)
+    omega (arith, pairing_part _ _ _ 0 c.loop-i.out c.loop-i.w c.loop-i.i c.loop-i-test.true c.loop-i.invariant c.requires, c.loop-i.invariant.size, c.well_formed.1.0)
 
 pub loop-i-preserved : goal.loop-i-preserved
 loop-i-preserved c =

@@ -17,11 +17,11 @@ loop-i-init c = gathered_none _ _ _
 pub overflow_cast-words : goal.overflow_cast-words
 overflow_cast-words c = omega (arith, low (goal.at.overflow_cast-words c).In-loop-i, c.well_formed.0)
 
-pub offset_bounds-vectors-order : goal.offset_bounds-vectors-order
-offset_bounds-vectors-order c = omega (arith, low (goal.at.offset_bounds-vectors-order c).In-loop-i, c.well_formed.0)
+pub offset_bounds-vectors-m : goal.offset_bounds-vectors-m
+offset_bounds-vectors-m c = omega (arith, low (goal.at.offset_bounds-vectors-m c).In-loop-i, c.well_formed.0)
 
-pub bounds-vectors-order : goal.bounds-vectors-order
-bounds-vectors-order c = low (goal.at.bounds-vectors-order c).In-loop-i
+pub bounds-vectors-m : goal.bounds-vectors-m
+bounds-vectors-m c = low (goal.at.bounds-vectors-m c).In-loop-i
 
 pub loop-i-preserved : goal.loop-i-preserved
 loop-i-preserved c =

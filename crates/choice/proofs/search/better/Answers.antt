@@ -1,23 +1,15 @@
-use Prim.Native.Nat.{ℕ}
 use mathlib.Core.Path.{sym, ◌∙◌}
 use borrow.Author.Tests.{eqb-true}
-use lib.ListN.{length}
-use Rattle.choice.specs.Inner.Judged.{gain_at}
+use Rattle.choice.specs.Inner.Sheets.{gain_of}
 use Rattle.choice.proofs.Searching.Best.{better_new, better_old}
 use Rattle.choice.proofs.search.better.Goals as goal
-use Rattle.choice.proofs.search.better.Goals.{Start}
-
-abbrev gain : Start → ℕ → ℕ → ℕ
-gain s = gain_at s.args.columns.now s.args.ends.now (length s.args.rests.now)
 
 pub returns-then-is_tied : goal.returns-then-is_tied
 returns-then-is_tied c =
-    better_old (gain (goal.at.returns-then-is_tied c).Start) c.args.best c.args.i c.args.j (c.requires.1 (eqb-true _ 1 (sym c.is_tied.ensures ∙ c.if-is_tied.true)))
+    better_old (gain_of c.args.sheet.now) c.args.best c.args.i c.args.j (c.requires.2 (eqb-true _ 1 (sym c.is_tied.ensures ∙ c.if-is_tied.true)))
 
 pub returns-then-best-gain : goal.returns-then-best-gain
-returns-then-best-gain c =
-    better_new (gain (goal.at.returns-then-best-gain c).Start) c.args.best c.args.i c.args.j _ (c.gain-gain.ensures.above c.if-best-gain.true) c.if-best-gain.true
+returns-then-best-gain c = better_new (gain_of c.args.sheet.now) c.args.best c.args.i c.args.j _ (c.gain-gain.ensures.above c.if-best-gain.true) c.if-best-gain.true
 
 pub returns-else-best-gain : goal.returns-else-best-gain
-returns-else-best-gain c =
-    better_old (gain (goal.at.returns-else-best-gain c).Start) c.args.best c.args.i c.args.j (c.gain-gain.ensures.below c.if-best-gain.false)
+returns-else-best-gain c = better_old (gain_of c.args.sheet.now) c.args.best c.args.i c.args.j (c.gain-gain.ensures.below c.if-best-gain.false)

@@ -1,22 +1,18 @@
+use Prim.Native.Nat.{◌+◌, ◌-◌, ◌*◌}
 use native.Mathlib.Omega.{arith}
-use mathlib.Core.Path.{◌≡◌}
-use lib.ListN.{length, length-set}
-use Rattle.vectors.specs.Bounds.{max_variables}
+use mathlib.Core.Path.{◌≡◌, ◌∙◌}
+use Rattle.file.specs.Layout.{variables_at}
 use Rattle.file.proofs.Laying.Heads.{placing_none, placing_more, placing_end}
 use Rattle.file.proofs.writing.put_variables.Goals as goal
-use Rattle.file.proofs.writing.put_variables.Goals.{Start}
-
-size : (s : Start) → length s.args.variables ≡ max_variables
-size s = s.well_formed.0.1.0.1
 
 pub loop-i-init : goal.loop-i-init
-loop-i-init c = (omega arith, placing_none _ _)
-
-pub bounds-head-i-in-loop-i : goal.bounds-head-i-in-loop-i
-bounds-head-i-in-loop-i c = simp length-set (omega (arith, c.requires, c.loop-i.invariant.1.long, c.least-last.ensures))
+loop-i-init c = placing_none _ _
 
 pub loop-i-preserved : goal.loop-i-preserved
-loop-i-preserved c = (omega arith, placing_more c.args.variables _ _ _ _ _ _ (omega (arith, size (goal.at.loop-i-preserved c).Start, c.least-last.ensures)) c.positions-x.ensures c.loop-i.invariant.1)
+loop-i-preserved c =
+    let at = variables_at + 2 * c.loop-i.i in
+    let two : at + 2 - at ≡ 2 = omega arith in
+    rw two (placing_more c.args.variables.now _ _ c.copy_from_slice.new.self _ _ (omega arith) (omega arith) (c.copy_from_slice.ensures.after ∙ c.positions.ensures) c.loop-i.invariant)
 
 pub returns : goal.returns
-returns c = placing_end c.args.variables _ _ c.args.p _ (size (goal.at.returns c).Start) (omega (arith, c.least-last.ensures, c.loop-i.invariant.0)) c.loop-i.invariant.1
+returns c = placing_end _ _ _ _ (omega arith) c.loop-i.invariant

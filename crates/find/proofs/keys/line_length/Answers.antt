@@ -1,14 +1,12 @@
-use Rattle.find.proofs.Lines.{scanning_none, scanning_found, scanning_more, scanning_end}
+use mathlib.Core.Path.{◌∙◌}
+use borrow.Author.Rules.{rules}
+use Rattle.std.proofs.Common.{tests}
+use Rattle.std.proofs.lemmas.Iterator.{YieldsList-from_slice}
+use Rattle.std.proofs.lemmas.Iterator.Search.{position_from_yields_List}
+use Rattle.find.proofs.Lines.{ends, line_is}
 use Rattle.find.proofs.keys.line_length.Goals as goal
 
-pub loop-i-init : goal.loop-i-init
-loop-i-init c = scanning_none _
-
-pub returns-then-text-i-eq10 : goal.returns-then-text-i-eq10
-returns-then-text-i-eq10 c = scanning_found _ _ c.loop-i.invariant c.loop-i-test.true c.if-text-i-eq10.true
-
-pub loop-i-preserved : goal.loop-i-preserved
-loop-i-preserved c = scanning_more _ _ c.loop-i.invariant c.loop-i-test.true c.if-text-i-eq10.false
-
 pub returns : goal.returns
-returns c = scanning_end _ _ c.loop-i.invariant c.loop-i-test.false
+returns c =
+    c.unwrap_or.ensures
+    ∙ line_is c.args.text.now c.position.result (position_from_yields_List ends _ _ c.position.result c.position.ensures.ran (YieldsList-from_slice c.args.text.now c.iter.ensures.rest) (λ x b q k. search (rules, tests)))

@@ -1,10 +1,13 @@
+use mathlib.Core.Path.{◌≡◌}
 use Prim.Native.Nat.{◌-◌}
-use lib.ListN.{length}
-use Rattle.find.proofs.Lines.{Reading}
+use lib.ListN.{length, take}
+use Rattle.std.specs.List.{slice_split}
+use Rattle.find.proofs.Lines.{ends, Reading}
 use Rattle.find.proofs.keys.read.Given as goal
 
-abbrev pub invariant-loop-at : goal.invariant-loop-at
-invariant-loop-at l = Reading l.text l.keys l.count l.at
-
-abbrev pub decreases-loop-at : goal.decreases-loop-at
-decreases-loop-at l = length l.text - l.at
+abbrev pub invariant-loop-line : goal.invariant-loop-line
+invariant-loop-line l =
+    (goal.iterator-loop-line).can_next l.line-iterator
+    × (goal.iterator-loop-line).is_finite l.line-iterator
+    × (l.count ≡ length l.yielded)
+    × Reading (slice_split ends (take (length l.text - 1) l.text)) l.keys (length l.yielded)

@@ -7,6 +7,7 @@ use mathlib.Core.Bool.{◌&&◌}
 use mathlib.Core.List.{List}
 use lib.Dec.{leb, ltb}
 use lib.ListN.{length, take}
+use Rattle.std.proofs.lemmas.List.{map-id}
 use lib.Pow.{shl_exact}
 use lib.Seq.{length-take-le}
 use borrow.Author.Tests.{leb-true, ltb-true}
@@ -47,32 +48,32 @@ three p q r = cc
 pub overflow_shl-rows : goal.overflow_shl-rows
 overflow_shl-rows c = omega (arith, (bounds (goal.at.overflow_shl-rows c).Start).rows_few)
 
-pub slice_bounds-fill16-end : goal.slice_bounds-fill16-end
-slice_bounds-fill16-end c = omega (arith, power (goal.at.slice_bounds-fill16-end c).Start, (held (goal.at.slice_bounds-fill16-end c).Start).0)
+pub slice_bounds-fill_words-end : goal.slice_bounds-fill_words-end
+slice_bounds-fill_words-end c = omega (arith, power (goal.at.slice_bounds-fill_words-end c).Start, (held (goal.at.slice_bounds-fill_words-end c).Start).0)
 
-pub slice_bounds-fill16-end-2 : goal.slice_bounds-fill16-end-2
-slice_bounds-fill16-end-2 c = sym (length-take-le _ _ (omega (arith, power (goal.at.slice_bounds-fill16-end-2 c).Start, (held (goal.at.slice_bounds-fill16-end-2 c).Start).0)))
+pub slice_bounds-fill_words-end-2 : goal.slice_bounds-fill_words-end-2
+slice_bounds-fill_words-end-2 c = sym (length-take-le _ _ (omega (arith, power (goal.at.slice_bounds-fill_words-end-2 c).Start, (held (goal.at.slice_bounds-fill_words-end-2 c).Start).0)))
 
-pub fill16-requires : goal.fill16-requires
-fill16-requires c = let n = length-take-le _ c.args.h.now (rows_fit (goal.at.fill16-requires c).Start) in omega (arith, power (goal.at.fill16-requires c).Start, n, c.requires.unit_value.1)
+pub fill_words-requires : goal.fill_words-requires
+fill_words-requires c = let n = length-take-le _ c.args.h.now (rows_fit (goal.at.fill_words-requires c).Start) in omega (arith, power (goal.at.fill_words-requires c).Start, n, c.requires.unit_value.1)
 
-pub slice_bounds-fill16-end-3 : goal.slice_bounds-fill16-end-3
-slice_bounds-fill16-end-3 c = (held (goal.at.slice_bounds-fill16-end-3 c).Start).1
+pub slice_bounds-fill_words-end-3 : goal.slice_bounds-fill_words-end-3
+slice_bounds-fill_words-end-3 c = (held (goal.at.slice_bounds-fill_words-end-3 c).Start).1
 
-pub slice_bounds-fill16-end-4 : goal.slice_bounds-fill16-end-4
-slice_bounds-fill16-end-4 c = sym (length-take-le _ _ (held (goal.at.slice_bounds-fill16-end-4 c).Start).1)
+pub slice_bounds-fill_words-end-4 : goal.slice_bounds-fill_words-end-4
+slice_bounds-fill_words-end-4 c = sym (length-take-le _ _ (held (goal.at.slice_bounds-fill_words-end-4 c).Start).1)
 
-pub fill16-requires-2 : goal.fill16-requires-2
-fill16-requires-2 c = let n = length-take-le _ c.args.g.now (held (goal.at.fill16-requires-2 c).Start).1 in omega (arith, ap (λ (x : Starts). x.g) c.plan-starts.ensures, n, c.requires.unit_value.1)
+pub fill_words-requires-2 : goal.fill_words-requires-2
+fill_words-requires-2 c = let n = length-take-le _ c.args.g.now (held (goal.at.fill_words-requires-2 c).Start).1 in omega (arith, ap (λ (x : Starts). x.g) c.plan-starts.ensures, n, c.requires.unit_value.1)
 
-pub slice_bounds-fill64-end : goal.slice_bounds-fill64-end
-slice_bounds-fill64-end c = omega (arith, (held (goal.at.slice_bounds-fill64-end c).Start).2)
+pub slice_bounds-fill_words-end-5 : goal.slice_bounds-fill_words-end-5
+slice_bounds-fill_words-end-5 c = omega (arith, (held (goal.at.slice_bounds-fill_words-end-5 c).Start).2)
 
-pub slice_bounds-fill64-end-2 : goal.slice_bounds-fill64-end-2
-slice_bounds-fill64-end-2 c = sym (length-take-le _ _ (omega (arith, (held (goal.at.slice_bounds-fill64-end-2 c).Start).2)))
+pub slice_bounds-fill_words-end-6 : goal.slice_bounds-fill_words-end-6
+slice_bounds-fill_words-end-6 c = sym (length-take-le _ _ (omega (arith, (held (goal.at.slice_bounds-fill_words-end-6 c).Start).2)))
 
-pub fill64-requires : goal.fill64-requires
-fill64-requires c = let n = length-take-le (c.args.unit.k + 1) c.args.aux.now (omega (arith, (held (goal.at.fill64-requires c).Start).2)) in omega (arith, ap (λ (x : Starts). x.aux) c.plan-starts.ensures, n, c.requires.unit_value.1)
+pub fill_words-requires-3 : goal.fill_words-requires-3
+fill_words-requires-3 c = let n = length-take-le (c.args.unit.k + 1) c.args.aux.now (omega (arith, (held (goal.at.fill_words-requires-3 c).Start).2)) in omega (arith, ap (λ (x : Starts). x.aux) c.plan-starts.ensures, n, c.requires.unit_value.1)
 
 pub returns : goal.returns
 unfolding tables_in
@@ -80,7 +81,7 @@ returns c =
     let u = c.args.unit in
     let f = c.args.file.now in
     let p = c.plan-starts.ensures in
-    let a = table_over short_word short_words h_first (rows_in u) f c.args.h.now _ _ (omega arith) (power (goal.at.returns c).Start) (held (goal.at.returns c).Start).0 c.fill16.ensures in
-    let b = table_over short_word short_words (g_first u) u.cells f c.args.g.now _ _ (omega arith) refl (held (goal.at.returns c).Start).1 (c.fill16-2.ensures ∙ ap (λ (x : Starts). table_in short_word short_words x.g (length (take u.cells c.args.g.now)) f) p) in
-    let d = table_over long_word long_words (aux_first u) (words_in u) f c.args.aux.now _ _ (omega arith) (add-one u.k) (omega (arith, (held (goal.at.returns c).Start).2)) (c.fill64.ensures ∙ ap (λ (x : Starts). table_in long_word long_words x.aux (length (take (u.k + 1) c.args.aux.now)) f) p) in
+    let a = table_over short_word short_words h_first (rows_in u) f c.args.h.now _ _ (omega arith) (power (goal.at.returns c).Start) (held (goal.at.returns c).Start).0 (sym (map-id _) ∙ c.fill_words.ensures) in
+    let b = table_over short_word short_words (g_first u) u.cells f c.args.g.now _ _ (omega arith) refl (held (goal.at.returns c).Start).1 (sym (map-id _) ∙ c.fill_words-2.ensures ∙ ap (λ (x : Starts). table_in short_word short_words x.g (length (take u.cells c.args.g.now)) f) p) in
+    let d = table_over long_word long_words (aux_first u) (words_in u) f c.args.aux.now _ _ (omega arith) (add-one u.k) (omega (arith, (held (goal.at.returns c).Start).2)) (sym (map-id _) ∙ c.fill_words-3.ensures ∙ ap (λ (x : Starts). table_in long_word long_words x.aux (length (take (u.k + 1) c.args.aux.now)) f) p) in
     three a b d

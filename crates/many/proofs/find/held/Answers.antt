@@ -24,11 +24,11 @@ pub bounds-h-row : goal.bounds-h-row
 bounds-h-row c = row_held (goal.at.bounds-h-row c).Start
 
 pub overflow_cast-cell : goal.overflow_cast-cell
-overflow_cast-cell c = omega (arith, c.shared_slice_known-3-1.given (row (goal.at.overflow_cast-cell c).Start))
+overflow_cast-cell c = omega (arith, c.type_inv.h (row (goal.at.overflow_cast-cell c).Start))
 
 pub overflow_add-cell : goal.overflow_add-cell
 overflow_add-cell c =
-    omega (arith, c.shared_slice_known-3-1.given (row (goal.at.overflow_add-cell c).Start), and_le_r c.args.y c.args.frame.columns, c.requires.columns_low)
+    omega (arith, c.type_inv.h (row (goal.at.overflow_add-cell c).Start), and_le_r c.args.y c.args.frame.columns, c.requires.columns_low)
 
 pub returns-then-frame-cell : goal.returns-then-frame-cell
 returns-then-frame-cell c =
@@ -36,6 +36,6 @@ returns-then-frame-cell c =
 
 pub returns : goal.returns
 returns c = (
-  omega (arith, c.index.ensures, c.shared_slice_known-4-1.given (cell (goal.at.returns c).Start)),
+  omega (arith, c.index.ensures, c.type_inv.g (cell (goal.at.returns c).Start)),
   λ u aux x o e w. held_in u c.args.frame x c.args.y o e c.args.word w (lent c.args.h.now c.args.g.now aux) c.if-frame-cell.false _ c.index.ensures,
 )

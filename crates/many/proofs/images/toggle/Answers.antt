@@ -1,5 +1,6 @@
 use Prim.Native.Nat.{ℕ, ◌%◌, ◌^◌}
 use mathlib.Core.Path.{ap}
+use Rattle.std.proofs.Common.{inl, inr}
 use Rattle.vectors.specs.Bits.{place_of}
 use Rattle.vectors.specs.Bounds.{max_inputs}
 use Rattle.vectors.proofs.Bits.Laws.{place_out}
@@ -8,11 +9,8 @@ use Rattle.many.proofs.images.toggle.Goals as goal
 
 pub returns-then-b-eq0 : goal.returns-then-b-eq0
 returns-then-b-eq0 c =
-    λ ms m e o. toggled_none ms m c.args.images.now c.requires o c.args.i (ap (λ (i : ℕ). place_of i % 2 ^ max_inputs) c.if-b-eq0.true)
-
-pub returns-then-b-gt-MAX_INPUTS : goal.returns-then-b-gt-MAX_INPUTS
-returns-then-b-gt-MAX_INPUTS c =
-    λ ms m e o. toggled_none ms m c.args.images.now c.requires o c.args.i (place_out max_inputs c.args.i c.if-b-gt-MAX_INPUTS.true)
+    λ ms m e o. toggled_none ms m c.args.images.now c.requires o c.args.i
+    (elim c.then-b-eq0.either [ inl h ↦ ap (λ (i : ℕ). place_of i % 2 ^ max_inputs) h | inr h ↦ place_out max_inputs c.args.i h.1 ])
 
 pub returns : goal.returns
 returns c =

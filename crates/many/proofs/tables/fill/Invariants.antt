@@ -1,4 +1,4 @@
-use Prim.Native.Nat.{ℕ, ◌-◌, ◌≤◌}
+use Prim.Native.Nat.{ℕ, ◌≤◌}
 use mathlib.Core.Path.{◌≡◌}
 use lib.ListN.{length}
 use Rattle.many.specs.Image.{Linear}
@@ -7,6 +7,3 @@ use Rattle.many.proofs.tables.fill.Given as goal
 
 abbrev pub invariant-loop-t : goal.invariant-loop-t
 invariant-loop-t l = (l.t ≤ l.bytes) × (length l.tables ≡ 2048) × ((f : ℕ → ℕ) → Linear f → OnBits 64 f l.images → Tabled l.t f l.tables)
-
-abbrev pub decreases-loop-t : goal.decreases-loop-t
-decreases-loop-t l = l.bytes - l.t

@@ -1,43 +1,42 @@
-use mathlib.Core.Path.{◌∙◌}
-use Rattle.record.specs.Tables.{Tables, lent}
+use native.Mathlib.Omega.{arith}
+use mathlib.Core.Path.{◌≡◌, refl}
+use Rattle.std.proofs.lemmas.Result.{err_from_is_err_and}
+use Rattle.refusal.proofs.Numbers.{numbered}
 use Rattle.profiles.proofs.Placing.{place_unasked, place_refused, place_brand, place_house_refused, place_house}
+use Rattle.profiles.specs.Place.{Asked, asked_of, room_of}
 use Rattle.profiles.proofs.places.find.Goals as goal
-use Rattle.profiles.proofs.places.find.Goals.{Start}
+use Rattle.profiles.proofs.places.find.Goals.{In_ok-x}
 
-abbrev brand_tables : Start → Tables
-brand_tables s = lent s.args.brand_h.now s.args.brand_g.now s.args.brand_aux.now
+-- the word that the units are asked for
+asks : (c : In_ok-x) → ◌≡◌ {A = Asked} (record { refusal = 0; word = c.in_ok-x.x }) (asked_of (room_of c.args.brand) (room_of c.args.house) c.args.key)
+asks c = rw (c.room.ensures, c.room-2.ensures) at c.in_ok-x.ensures
 
-abbrev house_tables : Start → Tables
-house_tables s = lent s.args.house_h.now s.args.house_g.now s.args.house_aux.now
+pub returns-in_err-x : goal.returns-in_err-x
+returns-in_err-x c =
+    let p = err_from_is_err_and c.from_residual.result c.from_residual.ensures.1 in
+    rw (p.1, p.2)
+    (place_unasked _ _ _ _ _ _ (rw (c.room.ensures, c.room-2.ensures) at c.in_err-x.ensures) (λ z. omega (arith, numbered c.in_err-x.field-0.0)))
 
-pub returns-then-asked-ne0 : goal.returns-then-asked-ne0
-returns-then-asked-ne0 c =
-    let a = c.ask-asked in
-    c.refused.ensures ∙ place_unasked c.args.brand (brand_tables (goal.at.returns-then-asked-ne0 c).Start) c.args.house (house_tables (goal.at.returns-then-asked-ne0 c).Start) c.args.key a.result a.ensures c.if-asked-ne0.true
+pub returns-in_err-first : goal.returns-in_err-first
+returns-in_err-first c =
+    let p = err_from_is_err_and c.from_residual-in_err-first.result c.from_residual-in_err-first.ensures.1 in
+    let a = asks (goal.at.returns-in_err-first c).In_ok-x in
+    rw (p.1, p.2) (place_refused _ _ _ _ _ _ a refl _ c.in_err-first.ensures (λ z. omega (arith, numbered c.in_err-first.field-0.0)))
 
 pub returns-then-first-ne0 : goal.returns-then-first-ne0
 returns-then-first-ne0 c =
-    let a = c.ask-asked in
-    let f = c.lookup-first in
-    c.refused-then-first-ne0.ensures ∙ place_refused c.args.brand (brand_tables (goal.at.returns-then-first-ne0 c).Start) c.args.house (house_tables (goal.at.returns-then-first-ne0 c).Start) c.args.key a.result a.ensures c.if-asked-ne0.false f.result f.ensures c.if-first-ne0.true
+    let a = asks (goal.at.returns-then-first-ne0 c).In_ok-x in
+    place_brand _ _ _ _ _ _ a refl _ c.in_ok-first.ensures refl c.if-first-ne0.true
 
-pub returns-then-first-ne0-2 : goal.returns-then-first-ne0-2
-returns-then-first-ne0-2 c =
-    let a = c.ask-asked in
-    let f = c.lookup-first in
-    place_brand c.args.brand (brand_tables (goal.at.returns-then-first-ne0-2 c).Start) c.args.house (house_tables (goal.at.returns-then-first-ne0-2 c).Start) c.args.key a.result a.ensures c.if-asked-ne0.false f.result f.ensures c.if-first-ne0.false c.if-first-ne0-2.true
-
-pub returns-then-second-ne0 : goal.returns-then-second-ne0
-returns-then-second-ne0 c =
-    let a = c.ask-asked in
-    let f = c.lookup-first in
-    let g = c.lookup-second in
-    c.refused-then-second-ne0.ensures
-    ∙ place_house_refused c.args.brand (brand_tables (goal.at.returns-then-second-ne0 c).Start) c.args.house (house_tables (goal.at.returns-then-second-ne0 c).Start) c.args.key a.result a.ensures c.if-asked-ne0.false f.result f.ensures c.if-first-ne0.false c.if-first-ne0-2.false g.result g.ensures c.if-second-ne0.true
+pub returns-in_err-second : goal.returns-in_err-second
+returns-in_err-second c =
+    let p = err_from_is_err_and c.from_residual-in_err-second.result c.from_residual-in_err-second.ensures.1 in
+    let a = asks (goal.at.returns-in_err-second c).In_ok-x in
+    rw (p.1, p.2)
+    (place_house_refused _ _ _ _ _ _ a refl _ c.in_ok-first.ensures refl c.if-first-ne0.false _ c.in_err-second.ensures
+    (λ z. omega (arith, numbered c.in_err-second.field-0.0)))
 
 pub returns : goal.returns
 returns c =
-    let a = c.ask-asked in
-    let f = c.lookup-first in
-    let g = c.lookup-second in
-    place_house c.args.brand (brand_tables (goal.at.returns c).Start) c.args.house (house_tables (goal.at.returns c).Start) c.args.key a.result a.ensures c.if-asked-ne0.false f.result f.ensures c.if-first-ne0.false c.if-first-ne0-2.false g.result g.ensures c.if-second-ne0.false
+    let a = asks (goal.at.returns c).In_ok-x in
+    place_house _ _ _ _ _ _ a refl _ c.in_ok-first.ensures refl c.if-first-ne0.false _ c.in_ok-second.ensures refl

@@ -1,13 +1,11 @@
-use Rattle.record.specs.Tables.{lent}
+use mathlib.Core.Path.{sym, subst}
+use lib.ListN.{length}
+use Rattle.profiles.specs.Place.{Held}
+use Rattle.profiles.specs.View.{Within}
 use Rattle.profiles.proofs.Placing.{place_within}
 use Rattle.profiles.proofs.places.profile.Goals as goal
 
 pub view-requires : goal.view-requires
 view-requires c =
     let a = c.args in
-    rw c.find-held.ensures
-    (place_within a.brand (lent a.brand_h.now a.brand_g.now a.brand_aux.now) a.brand_slab.now a.brand_size
-    a.house (lent a.house_h.now a.house_g.now a.house_aux.now) a.house_slab.now a.house_size a.key)
-
-pub returns : goal.returns
-returns c = rw c.find-held.ensures at c.view.ensures
+    subst (λ (at : Held). Within at (length a.brand_slab.now) a.brand_size (length a.house_slab.now) a.house_size) (sym c.in-Ok.ensures) (place_within _ _ _ _ _ _ _ _ _)

@@ -1,18 +1,14 @@
-use native.Mathlib.Omega.{arith}
-use Rattle.rows.proofs.Chains.Unlinking.{unlinking_none, unlinking_more, unlinking_end}
+use Prim.Native.Nat.{◌%◌}
+use lib.ListN.{get_or}
+use Rattle.std.proofs.Common.{arith}
+use Rattle.std.proofs.lemmas.List.{get_or_default}
+use Rattle.std.proofs.lemmas.List.Edits.{map_over_more}
+use Rattle.rows.specs.Answer.{max_places}
+use Rattle.rows.proofs.Chains.Unlinking.{unlinking_end}
 use Rattle.rows.proofs.links.unlink.Goals as goal
 
-pub loop-i-init : goal.loop-i-init
-loop-i-init c = unlinking_none _
-
-pub loop-i-smaller : goal.loop-i-smaller
-loop-i-smaller c = omega (arith, c.loop-i.invariant.size)
-
-pub loop-i-preserved : goal.loop-i-preserved
-loop-i-preserved c = unlinking_more c.loop-i.invariant c.loop-i-test.true
-
-pub shape_of-aux : goal.shape_of-aux
-shape_of-aux c = c.loop-i.invariant.size
+pub loop-word-preserved : goal.loop-word-preserved
+loop-word-preserved c = map_over_more (λ w. w % max_places) _ _ _ (get_or c.loop-word.word-items c.loop-word.word-index 0) (omega arith) c.loop-word.invariant (get_or_default c.loop-word.word-items c.loop-word.word-index _ _ (omega arith))
 
 pub returns : goal.returns
-returns c = unlinking_end c.loop-i.invariant c.loop-i-test.false
+returns c = unlinking_end c.args.aux.now c.loop-word.word-items c.loop-word.word-index c.requires c.loop-word-test.false c.loop-word.invariant

@@ -1,33 +1,21 @@
 use native.Mathlib.Omega.{arith}
-use Rattle.rows.proofs.Taken.Gathering.{taken_none, taken_next, taken_all}
+use Prim.Native.Nat.{min}
+use mathlib.Core.Path.{◌≡◌, refl, ◌∙◌}
+use lib.ListN.{length}
+use Rattle.std.specs.Iterator.Adapters.{enumerate_source}
+use Rattle.std.specs.Slice.Iter.{chunks_rest}
+use Rattle.rows.proofs.Taken.Gathering.{taken_none, taken_chunk}
 use Rattle.rows.proofs.room.take_cells.Goals as goal
 
 pub loop-q-init : goal.loop-q-init
-loop-q-init c = (taken_none c.args.g.now _ c.requires.blank, omega arith)
-
-pub overflow_mul-q : goal.overflow_mul-q
-overflow_mul-q c = omega (arith, c.loop-q.invariant.1, c.requires.inside)
-
-pub overflow_mul-q-in-loop-q : goal.overflow_mul-q-in-loop-q
-overflow_mul-q-in-loop-q c = omega (arith, c.loop-q-test.true, c.requires.inside)
-
-pub bits_from-requires : goal.bits_from-requires
-bits_from-requires c = (omega (arith, c.loop-q-test.true), c.requires.inside)
-
-pub offset_bounds-taken-q : goal.offset_bounds-taken-q
-offset_bounds-taken-q c = omega (arith, c.loop-q-test.true, c.requires.inside)
-
-pub bounds-taken-q : goal.bounds-taken-q
-bounds-taken-q c = omega (arith, c.loop-q-test.true, c.requires.inside)
-
-pub overflow_add-q : goal.overflow_add-q
-overflow_add-q c = omega (arith, c.loop-q-test.true, c.requires.inside)
-
-pub loop-q-smaller : goal.loop-q-smaller
-loop-q-smaller c = omega (arith, c.loop-q-test.true)
+loop-q-init c =
+    rw (c.into_iter-q-iterator.ensures.into_iter_gives, c.enumerate-q-items.ensures.source, c.enumerate-q-items.ensures.count, c.chunks.ensures.rest, c.chunks.ensures.size)
+    (record { size = refl; rest = refl; few = omega arith; taken = taken_none c.args.g.now _ c.requires.blank })
 
 pub loop-q-preserved : goal.loop-q-preserved
-loop-q-preserved c = let v = c.loop-q.invariant in (taken_next _ _ _ _ v.0 (omega (arith, v.0.size, c.loop-q-test.true, c.requires.inside)) c.bits_from.ensures, omega (arith, c.loop-q-test.true))
-
-pub returns : goal.returns
-returns c = taken_all _ _ _ c.loop-q-test.false c.loop-q.invariant.0
+loop-q-preserved c =
+    let s = c.in-Some.ensures.steps in
+    let v = c.loop-q.invariant in
+    let n : length c.in-Some.cells.now ≡ min 64 (length (chunks_rest (enumerate_source c.loop-q.q-iterator))) = rw v.size at s.0.1.1 in
+    let k = taken_chunk _ _ _ _ _ _ _ v.rest s.0.1.0 n s.0.1.2 c.requires.inside v.taken c.bits_of.ensures in
+    rw (s.2, s.1) (record { size = s.0.0 ∙ v.size; rest = k.left; few = k.few; taken = k.bits_are })

@@ -1,43 +1,48 @@
+use Prim.Native.Nat.{◌≤◌, ◌<◌}
 use native.Mathlib.Omega.{arith}
-use mathlib.Core.Path.{sym, ◌∙◌}
-use Rattle.rows.proofs.Fits.First.{fit_inside, fit_low}
+use mathlib.Core.Path.{refl, sym, ◌∙◌}
+use lib.ListN.{length}
+use Rattle.rows.specs.Inner.Chains as tried
+use Rattle.rows.specs.Inner.Chains.{chain}
+use Rattle.rows.proofs.Fits.First.{fit_inside, fit_low, none_low}
 use Rattle.rows.proofs.Chains.Walks.{chain_pos}
-use Rattle.rows.proofs.Sweeps.Going.{placed_at, placed_none}
 use Rattle.rows.proofs.Answers.Owned.{owned_fit}
 use Rattle.rows.proofs.sweep.place_row.Goals as goal
-use Rattle.rows.proofs.sweep.place_row.Goals.{After-first_fit-fit, Start}
+use Rattle.rows.proofs.sweep.place_row.Goals.{In-Ok, In-Err}
 
-abbrev start : After-first_fit-fit → Start
-start c = c.before.before.before.before.before.before.before
+low : (c : In-Ok) → c.in-Ok.d < length c.args.g.now
+low c = let m = c.args.chain in fit_low _ _ _ (chain_pos _ m.rises _ m.some.0 m.some.1) (sym c.in-Ok.ensures)
 
-pub put_row-requires : goal.put_row-requires
-put_row-requires c =
-    let s = start (goal.at.put_row-requires c).After-first_fit-fit in
-    let e = sym c.first_fit-fit.ensures ∙ c.in-At.is in
-    record {
-      linked = s.requires.linked;
-      inside = (s.requires.inside.0, s.requires.inside.2, s.requires.inside.4, fit_inside _ _ _ e);
-      taken = s.requires.taken;
-    }
+few : (c : In-Err) → c.in-Err.field-0.tried ≤ length c.args.g.now
+few c = let m = c.args.chain in none_low _ _ _ _ (chain_pos _ m.rises _ m.some.0 m.some.1) (sym c.in-Err.ensures)
+
+pub put-requires-clause-inside : goal.put-requires-clause-inside
+put-requires-clause-inside c = fit_inside _ _ _ (sym c.in-Ok.ensures)
 
 pub overflow_cast-h : goal.overflow_cast-h
-overflow_cast-h c =
-    let s = start (goal.at.overflow_cast-h c).After-first_fit-fit in
-    let e = sym c.first_fit-fit.ensures ∙ c.in-At.is in
-    omega (arith, fit_low _ _ _ (chain_pos _ s.requires.linked _ s.requires.inside.0 s.requires.inside.1) e, s.requires.inside)
+overflow_cast-h c = omega (arith, low (goal.at.overflow_cast-h c).In-Ok, c.requires.taken.few)
 
-pub returns-in-At : goal.returns-in-At
-returns-in-At c =
-    let e = sym c.first_fit-fit.ensures ∙ c.in-At.is in
-    record {
-      row_placed = placed_at _ _ _ _ _ (owned_fit _ _ _ ∙ e) c.put_row.ensures.g_after;
-      taken_2 = c.put_row.ensures.taken_2;
-    }
+pub overflow_add-more : goal.overflow_add-more
+overflow_add-more c = omega (arith, low (goal.at.overflow_add-more c).In-Ok, c.requires.taken.few)
 
-pub returns-in-None : goal.returns-in-None
-returns-in-None c =
-    let e = sym c.first_fit-fit.ensures ∙ c.in-None.is in
-    record {
-      row_placed = placed_none _ _ _ _ _ _ (owned_fit _ _ _ ∙ e);
-      taken_2 = (start (goal.at.returns-in-None c).After-first_fit-fit).requires.taken;
-    }
+pub overflow_add-more-in-Ok : goal.overflow_add-more-in-Ok
+overflow_add-more-in-Ok c = omega (arith, low (goal.at.overflow_add-more-in-Ok c).In-Ok, c.requires)
+
+pub overflow_add-tries : goal.overflow_add-tries
+overflow_add-tries c = omega (arith, few c, c.requires)
+
+pub returns-then-allowance-more-clause-row_tried : goal.returns-then-allowance-more-clause-row_tried
+returns-then-allowance-more-clause-row_tried c =
+    tried.over _ (owned_fit _ _ _ ∙ sym c.in-Ok.ensures) refl c.put.ensures.g_after c.if-allowance-more.true refl
+
+pub returns-else-allowance-more-clause-row_tried : goal.returns-else-allowance-more-clause-row_tried
+returns-else-allowance-more-clause-row_tried c =
+    tried.placed _ (owned_fit _ _ _ ∙ sym c.in-Ok.ensures) refl c.put.ensures.g_after c.if-allowance-more.false refl
+
+pub returns-then-allowance-tries-clause-row_tried : goal.returns-then-allowance-tries-clause-row_tried
+returns-then-allowance-tries-clause-row_tried c =
+    tried.stuck_over _ _ (owned_fit _ _ _ ∙ sym c.in-Err.ensures) refl refl c.if-allowance-tries.true refl
+
+pub returns-else-allowance-tries-clause-row_tried : goal.returns-else-allowance-tries-clause-row_tried
+returns-else-allowance-tries-clause-row_tried c =
+    tried.stuck _ _ (owned_fit _ _ _ ∙ sym c.in-Err.ensures) refl refl c.if-allowance-tries.false refl

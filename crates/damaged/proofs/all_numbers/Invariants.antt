@@ -1,8 +1,0 @@
-use Prim.Native.Nat.{◌-◌, ◌≤◌}
-use Rattle.damaged.proofs.all_numbers.Given as goal
-
-abbrev pub invariant-loop-i : goal.invariant-loop-i
-invariant-loop-i g l = l.i ≤ 9
-
-abbrev pub decreases-loop-i : goal.decreases-loop-i
-decreases-loop-i g l = 9 - l.i

@@ -1,8 +1,0 @@
-use Rattle.std.proofs.Common.{le-ltb, lt-ltb}
-use Rattle.vectors.proofs.outside.Goals as goal
-
-pub returns-then-x-low : goal.returns-then-x-low
-returns-then-x-low c = rw (lt-ltb _ _ c.if-x-low.true)
-
-pub returns : goal.returns
-returns c = rw (le-ltb _ _ c.if-x-low.false)
