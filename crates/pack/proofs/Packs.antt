@@ -1,6 +1,5 @@
 -- What is packed, from what a text leaves. Assumes nothing.
 use Prim.Native.Nat.{ℕ}
-use native.Mathlib.Omega.{arith}
 use mathlib.Core.Path.{◌≡◌, refl, sym, ap, ◌∙◌}
 use mathlib.Core.Bool.{Bool, true, false}
 use mathlib.Core.List.{List}
@@ -12,10 +11,10 @@ use Rattle.std.specs.Result.{result_unwrap_or}
 use Rattle.refusal.specs.declared.Refusal.{Refusal}
 use Rattle.refusal.specs.declared.Refused.{Refused}
 use Rattle.refusal.specs.Refusal.{number_of}
-use Rattle.refusal.proofs.Numbers.{numbered}
 use Rattle.build.specs.Built.{Built, told}
 use Rattle.build.specs.Build.{Outcome}
 use Rattle.record.specs.declared.Record.{Record}
+use Rattle.record.specs.Record.{blank_record}
 use Rattle.record.specs.Tables.{Tables}
 use Rattle.record.specs.Formed.{sound}
 use Rattle.print.specs.Print.{printed, fitted, refused_text}
@@ -54,13 +53,15 @@ module _ (t : Tables) (out : List ℕ) where
   counted (Ok length) = refl
   counted (Err e) = refl
 
-  pub unit_packed : (u : Record) (r : Result ℕ Refusal) (target : List ℕ) (k : ℕ) → k ≡ result_unwrap_or r 0 → write.after (write.told r) target ≡ write.write_of u t out
-      → printed k target ≡ pack_built (told (Ok u)) t out
-  unit_packed u r target k e w =
-      ap (λ (n : ℕ). printed n target) (e ∙ counted r) ∙ ap filed w ∙ built_accepted (told (Ok u)) t out refl
+  pub unit_packed : (b : Built) (e : b.refusal ≡ 0) (r : Result ℕ Refusal) (target : List ℕ) (k : ℕ) → k ≡ result_unwrap_or r 0
+      → write.after (write.told r) target ≡ write.write_of b.unit t out → printed k target ≡ pack_built b t out
+  unit_packed b e r target k s w =
+      ap (λ (n : ℕ). printed n target) (s ∙ counted r) ∙ ap filed w ∙ built_accepted b t out e
 
-  pub refusal_packed : (r : Refused) → fitted (refused_text (number_of r.refusal) r.place) out ≡ pack_built (told (Err r)) t out
-  refusal_packed r = built_refused (told (Err r)) t out (λ z. omega (arith, numbered r.refusal))
+  -- of what a build left the number, the place and the unit count
+  pub numbered_packed : (r : Refused) → pack_built (record { refusal = number_of r.refusal; place = r.place; needed = 0; unit = blank_record }) t out ≡ pack_built (told (Err r)) t out
+  unfolding pack_built
+  numbered_packed r = refl
 
 module _ (o : Outcome) where
   pub packed_accepted : o.built.refusal ≡ 0 → file_of o.built.unit o.tables ≡ packed o
