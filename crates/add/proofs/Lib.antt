@@ -4,6 +4,7 @@ pub mod Demand2
 pub mod Places
 pub mod Seating
 pub mod Refusing
+pub mod Founds
 pub mod Registered
 pub mod Moving
 pub mod Rungs

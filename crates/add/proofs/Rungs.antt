@@ -10,7 +10,7 @@ use Rattle.std.proofs.Common.{Option, None, Some, MatchOption, Err}
 use Rattle.vectors.specs.Bounds.{max_vectors, max_variables, max_words}
 use Rattle.record.specs.declared.Record.{Record}
 use Rattle.record.specs.Tables.{Tables}
-use Rattle.record.specs.Leads.{cell_in}
+use Rattle.record.specs.Leads.{word_in, cell_in}
 use Rattle.recover.specs.Every.{listed}
 use Rattle.recover.proofs.Every.{listed_formed, listed_few}
 use Rattle.refusal.specs.declared.Refused.{Refused}
@@ -20,11 +20,12 @@ use Rattle.build.specs.Build.{after, refused}
 use Rattle.refusal.proofs.Numbers.{numbered}
 use Rattle.build.proofs.Refusing.Ladder.{if_yes, if_no, pass_at, if_passed}
 use Rattle.add.specs.Add.{refuse_new, check3, check5, add_refusal, placed_in, add_of}
-use Rattle.add.specs.Inner.Seats.{seat_of, FirstsAre, NumberAt}
+use Rattle.add.specs.Inner.Seats.{seat_of, FirstsAre, NumberFound}
 use Rattle.add.specs.Inner.Checks.{checks}
 use Rattle.add.specs.Inner.Moves.{Ready}
 use Rattle.add.proofs.Seating.{seat_row, seat_column}
 use Rattle.add.proofs.Refusing.{new_yes, new_no}
+use Rattle.add.proofs.Founds.{or_0, found_number, found_own, found_alike}
 use Rattle.add.proofs.Registered.{own_is, alike_is}
 use Rattle.add.proofs.Moving.Rows.{stands, holds}
 use Rattle.add.proofs.Adding.Ends.{listed_rungs, added_refused, added_passed}
@@ -49,16 +50,17 @@ module _ (u : Record) (t : Tables) (x : ℕ) where
     added_beyond h = refused_by 5 (suc u.k) (past_listed ∙ new_yes 5 u _ _ (le-leb (2 ^ u.n) x h))
 
     -- the checks past these two, by the number whose first cell is that of x
-    pub refusal_is : x < 2 ^ u.n → (o : Option ℕ) → NumberAt u t (cell_in u t x) o → ladder (checks u t.aux (seat_of u t.h x) o) ≡ add_refusal u t x
+    pub refusal_is : x < 2 ^ u.n → (o : Option ℕ) → NumberFound u t (cell_in u t x) o → ladder (checks u t.aux (seat_of u t.h x) o) ≡ add_refusal u t x
     refusal_is b o N =
         sym
         (past_listed
         ∙ new_no 5 u _ _ (lt-leb (2 ^ u.n) x b)
         ∙ ap₂ (λ (m : ℕ) (c : Bool). ladder (refuse_at 40 m ∷ check3 u ∷ check5 u t ∷ refuse_new 10 u c ∷ []))
-        (own_is u t x L o N b) (alike_is u t x L o N))
+        (own_is u t x L (or_0 o) (found_number u t _ o N) b ∙ found_own u t _ t.aux (word_in u x) o N)
+        (alike_is u t x L (or_0 o) (found_number u t _ o N) ∙ found_alike u t _ (seat_of u t.h x) t.aux o N))
 
     -- a refusal of these checks, and what it is to be past them
-    module _ (b : x < 2 ^ u.n) (o : Option ℕ) (N : NumberAt u t (cell_in u t x) o) where
+    module _ (b : x < 2 ^ u.n) (o : Option ℕ) (N : NumberFound u t (cell_in u t x) o) where
       pub added_by : (e : Refused) → told (Err e) ≡ refused_as (ladder (checks u t.aux (seat_of u t.h x) o)) → after (told (Err e)) t.h t.g t.aux ≡ add_of u t x
       added_by e h =
           let k : told (Err e) ≡ refused_as (add_refusal u t x) = h ∙ ap refused_as (refusal_is b o N) in
@@ -73,7 +75,7 @@ module _ (u : Record) (t : Tables) (x : ℕ) where
     pub few : u.k ≤ max_vectors
     few = (listed_few u t L).0
 
-    pub number_low : (o : Option ℕ) → NumberAt u t (cell_in u t x) o → MatchOption o Unit (λ i. (0 < i) × (i < length t.aux))
+    pub number_low : (o : Option ℕ) → NumberFound u t (cell_in u t x) o → MatchOption o Unit (λ i. (0 < i) × (i < length t.aux))
     number_low None N = tt
     number_low (Some i) N = let p = N.some i refl in (p.0, omega (arith, p.1, (listed_formed u t L).words_held))
 

@@ -28,7 +28,7 @@ use Rattle.record.specs.Inner.Formed.{InBounds, RightInputs}
 use Rattle.record.proofs.Formed.{inside}
 use Rattle.lookup.proofs.Pass.{values_row, values_column, row_below, column_below}
 use Rattle.recover.specs.Recover.{first_cell}
-use Rattle.add.specs.Inner.Seats.{seat_of, FirstsAre, NumberAt}
+use Rattle.add.specs.Inner.Seats.{seat_of, FirstsAre, NumberFound}
 
 -- ---- the seat
 
@@ -97,24 +97,24 @@ module _ (u : Record) (t : Tables) (cell : ℕ) where
   pub cell_holds : (i : ℕ) → first_cell u t i ≡ suc cell → get_or t.g cell 0 ≡ i
   cell_holds i e = sym (get_or-take u.cells t.g cell 0 (cell_low i e)) ∙ (first_equal _ _ _ e).equal
 
-  number_none : ((i : ℕ) → 0 < i → i ≤ u.k → first_cell u t i ≡ suc cell → ⊥) → NumberAt u t cell None
+  number_none : ((i : ℕ) → 0 < i → i ≤ u.k → first_cell u t i ≡ suc cell → ⊥) → NumberFound u t cell None
   number_none n = record { only = λ i p q e. absurd (n i p q e); some = λ i z. absurd (cc z) }
 
-  pub number_out : u.cells ≤ cell → NumberAt u t cell None
+  pub number_out : u.cells ≤ cell → NumberFound u t cell None
   number_out l = number_none (λ i p q e. omega (arith, cell_low i e))
 
   module _ (i : ℕ) (h : i ≡ get_or t.g cell 0) where
-    pub number_outside : outside 1 u.k i ≡ true → NumberAt u t cell None
+    pub number_outside : outside 1 u.k i ≡ true → NumberFound u t cell None
     number_outside o = number_none (λ j p q e. let z : i ≡ j = h ∙ cell_holds j e in true≢false (sym o ∙ rw (z, le-ltb j 1 p, le-ltb u.k j q)))
 
     module _ (firsts : List ℕ) (f : FirstsAre u t firsts) (o : outside 1 u.k i ≡ false) where
       first_is : get_or firsts i 0 ≡ first_cell u t i
       first_is = let p = inside 1 u.k i o in f i p.0 p.1
 
-      pub number_later : (get_or firsts i 0 ≡ cell + 1 → ⊥) → NumberAt u t cell None
+      pub number_later : (get_or firsts i 0 ≡ cell + 1 → ⊥) → NumberFound u t cell None
       number_later n = number_none (λ j p q e. let z : i ≡ j = h ∙ cell_holds j e in n (first_is ∙ ap (first_cell u t) z ∙ e ∙ sym (add-one cell)))
 
-      pub number_here : get_or firsts i 0 ≡ cell + 1 → NumberAt u t cell (Some i)
+      pub number_here : get_or firsts i 0 ≡ cell + 1 → NumberFound u t cell (Some i)
       number_here e =
           record {
             only = λ j p q r. ap Some (h ∙ cell_holds j r);

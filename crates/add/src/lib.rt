@@ -11,8 +11,8 @@ ghost use Rattle.build.specs.Built.{told, checked, refused_as};
 ghost use Rattle.build.specs.Build.{after};
 ghost use Rattle.add.specs.Add as spec;
 ghost use Rattle.add.specs.Add.{add_of};
-ghost use Rattle.add.specs.Inner.Seats.{seat_of, FirstsAre, NumberAt};
-ghost use Rattle.add.specs.Inner.Checks.{alike_in, checks};
+ghost use Rattle.add.specs.Inner.Seats.{seat_of, FirstsAre, NumberFound};
+ghost use Rattle.add.specs.Inner.Checks.{alike_at, checks};
 ghost use Rattle.add.specs.Inner.Moves.{Ready, free_in, moved_by, placed_by};
 
 use record::{Mark, Record};
@@ -68,7 +68,7 @@ fn find_seat(unit: Record, h: &[u16], x: u64) -> Seat
 // The number whose first cell this is.
 fn number_at(unit: Record, g: &[u16], firsts: &[u16], cell: usize) -> Option<usize>
     requires sizes { (unit.cells ≤ length g.now) × (unit.k < length firsts.now) }
-    ensures { (h aux : List ℕ) → FirstsAre unit (lent h g.now aux) firsts.now → NumberAt unit (lent h g.now aux) cell result }
+    ensures { (h aux : List ℕ) → FirstsAre unit (lent h g.now aux) firsts.now → NumberFound unit (lent h g.now aux) cell result }
 {
     if unit.cells <= cell {
         return None;
@@ -86,7 +86,7 @@ fn number_at(unit: Record, g: &[u16], firsts: &[u16], cell: usize) -> Option<usi
 // Whether a number is there, and AUX has the row at it.
 fn alike(aux: &[u64], seat: Seat, number: Option<usize>) -> bool
     requires { MatchOption number Unit (λ i. i < length aux.now) }
-    ensures { result ≡ alike_in seat aux.now number }
+    ensures { result ≡ alike_at seat aux.now number }
 {
     number.is_some_and(|i| vectors::low(aux[i], seat.n1) == seat.row)
 }

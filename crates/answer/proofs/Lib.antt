@@ -1,3 +1,4 @@
 pub mod Makes
 pub mod Answers
 pub mod Fits
+pub mod One

@@ -41,13 +41,11 @@ fn leave(built: Result<Record, Refused>, words: &mut [u64; WORDS]) -> u64
     ensures value { result ≡ built_answer (told built).refusal (told built).place (told built).needed }
     ensures words_after { words.new ≡ flat_of (told built).unit }
 {
+    // In one place: of two each would take room of its own on the stack.
+    *words = flat::words(built.unwrap_or(record::blank()));
     match built {
-        Ok(unit) => {
-            *words = flat::words(unit);
-            0
-        }
+        Ok(_) => 0,
         Err(refused) => {
-            *words = flat::words(record::blank());
             let refusal = refused.refusal;
             answer(refusal.number(), refused.place) + 0x1_0000_0000 * (refusal.needed() as u64)
         }
@@ -188,14 +186,11 @@ pub fn igu_read(
     ensures { left result words.new (lent h.new g.new aux.new)
         ≡ read_call file.now (lent h.old g.old aux.old) }
 {
-    match load::read(file, h, g, aux) {
-        Ok(unit) => {
-            *words = flat::words(unit);
-            0
-        }
-        Err(refusal) => {
-            *words = flat::words(record::blank());
-            u64::from(refusal.number())
-        }
+    let read = load::read(file, h, g, aux);
+    // In one place: of two each would take room of its own on the stack, and with both the call would pass what include/igu.h says.
+    *words = flat::words(read.unwrap_or(record::blank()));
+    match read {
+        Ok(_) => 0,
+        Err(refusal) => u64::from(refusal.number()),
     }
 }

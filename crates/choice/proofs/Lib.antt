@@ -4,3 +4,4 @@ pub mod Laying
 pub mod Searching
 pub mod Grouping
 pub mod Choosing
+pub mod One

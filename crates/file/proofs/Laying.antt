@@ -1,4 +1,5 @@
 -- The bytes of a file, laid one after another.
+pub mod Counts
 pub mod Stacks
 pub mod Heads
 pub mod Files

@@ -22,7 +22,7 @@ use Rattle.lists.proofs.Entries.Members.{get_d_map}
 use Rattle.input.proofs.Reading.Numbers.{written_more}
 use Rattle.print.specs.Line.{newline}
 use Rattle.print.specs.Print.{max_bytes}
-use Rattle.find.specs.Keys.{Key, max_keys, key_of, keys_from, keys_in, good_keys, values_in, line_length}
+use Rattle.find.specs.Keys.{Key, max_keys, no_key, key_of, keys_from, keys_in, good_keys, values_in, line_length}
 use Rattle.find.specs.Given.{Given}
 use Rattle.find.specs.Given.{given_of}
 use Rattle.find.specs.Inner.{told, ReadAs}
@@ -59,6 +59,34 @@ line_is text r e = ap (λ (r : Option ℕ). unwrap_or r (length text)) e ∙ go 
     go : (t : Bool) → ltb (position_or_len ends text) (length text) ≡ t → unwrap_or (cond t (Some (position_or_len ends text)) None) (length text) ≡ line_length text
     go true h = sym same
     go false h = omega (arith, ltb-false (position_or_len ends text) (length text) h, same, line_within text)
+
+-- ---- the first line is the first key
+
+pub line_key : (word text : List ℕ) → line_length text < length text
+    → keys_from word text ≡ key_of (word ++ take (line_length text) text) ∷ keys_from [] (drop (suc (line_length text)) text)
+unfolding line_length keys_from
+line_key word [] h = absurd (omega arith)
+line_key word (b ∷ bs) h = go (eqb b newline) refl (line_key (word ++ (b ∷ [])) bs)
+  where
+    m : ℕ
+    m = line_length bs
+
+    go : (q : Bool) → eqb b newline ≡ q → (m < length bs → keys_from (word ++ (b ∷ [])) bs ≡ key_of ((word ++ (b ∷ [])) ++ take m bs) ∷ keys_from [] (drop (suc m) bs))
+        → keys_from word (b ∷ bs) ≡ key_of (word ++ take (line_length (b ∷ bs)) (b ∷ bs)) ∷ keys_from [] (drop (suc (line_length (b ∷ bs))) (b ∷ bs))
+    go true q more = rw (q, keys_from, line_length) (ap (λ (l : List ℕ). key_of l ∷ keys_from [] bs) (sym (append-nil word)))
+    go false q more =
+        let z : line_length (b ∷ bs) ≡ suc m = rw (q, line_length) in
+        rw (q, keys_from, line_length) (more (omega (arith, h)) ∙ ap (λ (l : List ℕ). key_of l ∷ keys_from [] (drop (suc m) bs)) (append_assoc word (b ∷ []) (take m bs)))
+
+-- a last line that no newline ends
+pub line_unended : (word text : List ℕ) → 0 < length word + length text → length text ≤ line_length text → keys_from word text ≡ no_key ∷ []
+unfolding line_length keys_from
+line_unended word [] h l = rw (ne_eqb (length word) 0 (λ (z : length word ≡ 0). omega arith), keys_from)
+line_unended word (b ∷ bs) h l = go (eqb b newline) refl (line_unended (word ++ (b ∷ [])) bs (omega (arith, length-append word (b ∷ []))))
+  where
+    go : (q : Bool) → eqb b newline ≡ q → (length bs ≤ line_length bs → keys_from (word ++ (b ∷ [])) bs ≡ no_key ∷ []) → keys_from word (b ∷ bs) ≡ no_key ∷ []
+    go true q more = let z : line_length (b ∷ bs) ≡ 0 = rw (q, line_length) in absurd (omega (arith, l))
+    go false q more = let z : line_length (b ∷ bs) ≡ suc (line_length bs) = rw (q, line_length) in rw (q, keys_from) (more (omega (arith, l)))
 
 -- ---- each line is a key
 

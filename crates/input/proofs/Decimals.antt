@@ -14,11 +14,11 @@ use Rattle.lists.specs.Members.{every}
 use Rattle.input.specs.Decimal.{max_number, digit, value_from, value_of, good_field}
 use Rattle.input.specs.Inner.{value_in}
 
-none_and : (a b : Bool) → (a && false && b) ≡ false
+pub none_and : (a b : Bool) → (a && false && b) ≡ false
 none_and true b = refl
 none_and false b = refl
 
-and_none : (a b : Bool) → (a && b && false) ≡ false
+pub and_none : (a b : Bool) → (a && b && false) ≡ false
 and_none true true = refl
 and_none true false = refl
 and_none false b = refl

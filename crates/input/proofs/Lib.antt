@@ -1,3 +1,4 @@
 pub mod Decimals
 pub mod Reading
 pub mod Opening
+pub mod One

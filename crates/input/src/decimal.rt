@@ -2,7 +2,7 @@
 ghost use Rattle.std.specs.Prelude.{◌≡◌};
 ghost use Rattle.input.specs.Fields as fields;
 ghost use Rattle.input.specs.Decimal as spec;
-ghost use Rattle.input.specs.Inner.{value_in};
+ghost use Rattle.input.specs.Inner.{value_in, grown as Inner·grown};
 
 // The largest number that may be written.
 pub const MAX_NUMBER: u64 = u64::MAX;
@@ -20,20 +20,25 @@ pub fn digit(b: u8) -> bool
     (b'0'..=b'9').contains(&b)
 }
 
+// A number with one digit more, the first of its digits where there is none yet; none where the byte is no digit, or the number too large then.
+pub(crate) fn grown(number: Option<u64>, b: u8) -> Option<u64>
+    ensures { result ≡ Inner·grown number b }
+{
+    if !digit(b) {
+        return None;
+    }
+    let d = u64::from(b - b'0');
+    let more = number.unwrap_or(0).checked_mul(10)?.checked_add(d)?;
+    Some(more)
+}
+
 // The value of a field, if it is a number.
 pub(crate) fn value_of(field: &[u8]) -> Option<u64>
     ensures { result ≡ value_in field.now }
 {
-    if field.is_empty() {
-        return None;
-    }
-    let mut value: u64 = 0;
+    let mut number = None;
     for b in field {
-        if !digit(*b) {
-            return None;
-        }
-        let d = u64::from(*b - b'0');
-        value = value.checked_mul(10)?.checked_add(d)?;
+        number = Some(grown(number, *b)?);
     }
-    Some(value)
+    number
 }

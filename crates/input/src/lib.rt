@@ -28,17 +28,25 @@ pub struct Input {
     pub count: usize,
 }
 
-// How many numbers the text is made of, if each of its fields is one.
+// How many numbers the text is made of, if each of its fields is one. It goes byte by byte and not from field to field, so that it ends at the
+// first byte that no number has there, however long the field is.
 fn count(text: &[u8]) -> Option<usize>
     requires { length text.now ≤ max_text }
     ensures { result ≡ count_of (fields text.now) }
 {
     let mut found = 0;
-    for field in text.split(|b| separator(*b)) {
-        decimal::value_of(field)?;
-        found += 1;
+    let mut number = None;
+    for b in text {
+        if separator(*b) {
+            number?;
+            number = None;
+            found += 1;
+        } else {
+            number = Some(decimal::grown(number, *b)?);
+        }
     }
-    Some(found)
+    number?;
+    Some(found + 1)
 }
 
 // The first three numbers, and the others written, which are as many as the slice holds.

@@ -3,3 +3,4 @@ pub mod Filling
 pub mod Checking
 pub mod Cases
 pub mod Naming
+pub mod One

@@ -59,6 +59,10 @@ found_listed u t x = (listed u t x).0
 pub found_number : (u : Record) (t : Tables) (x : ℕ) → (lookup_of u t x).refusal ≤ 14
 found_number u t x = (listed u t x).1
 
+-- 13, beside which cells are needed, never comes out
+pub found_plain : (u : Record) (t : Tables) (x : ℕ) → (lookup_of u t x).refusal ≡ 13 → ⊥
+found_plain u t x = (listed u t x).2
+
 pub found_index : (u : Record) (t : Tables) (x : ℕ) → (lookup_of u t x).index ≤ max_vectors
 found_index u t x = go (well_formed u t) refl
   where
@@ -75,4 +79,4 @@ told_one (Err a) (Ok j) h e = let q = ap (λ (f : Found). f.refusal) e in absurd
 told_one (Err a) (Err b) h e = ap Err (number_names a b h (ap (λ (f : Found). f.refusal) e))
 
 pub lookup_one : (u : Record) (t : Tables) (x : ℕ) (r s : Result ℕ Refusal) → told r ≡ lookup_of u t x → told s ≡ lookup_of u t x → r ≡ s
-lookup_one u t x r s e f = told_one r s (λ z. (listed u t x).2 (ap (λ (g : Found). g.refusal) (sym e) ∙ z)) (e ∙ sym f)
+lookup_one u t x r s e f = told_one r s (λ z. found_plain u t x (ap (λ (g : Found). g.refusal) (sym e) ∙ z)) (e ∙ sym f)

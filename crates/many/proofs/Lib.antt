@@ -6,3 +6,4 @@ pub mod Inputs
 pub mod Answers
 pub mod Keys
 pub mod Laws
+pub mod One

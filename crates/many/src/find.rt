@@ -96,20 +96,27 @@ impl<'a> Open<'a> {
         ensures { Ran self.now.frame self.now.images.now (lent self.now.h.now self.now.g.now self.now.aux.now) keys.now from
             indices.old indices.new result }
     {
-        let frame = self.frame;
+        // Taken apart: through self each turn would read the slices again, since it writes an index.
+        let Open {
+            frame,
+            images,
+            h,
+            g,
+            aux,
+        } = *self;
         let count = keys.len();
         for i in from..count {
             let x = keys[i];
             if frame.last < x {
                 return Err(Refusal::Beyond.at(i + 1));
             }
-            let y = tables::image::<WIDE>(self.images, x);
+            let y = tables::image::<WIDE>(images, x);
             let word = y >> frame.shift;
-            let index = held(frame, self.h, self.g, y, word);
+            let index = held(frame, h, g, y, word);
             if frame.k < index {
                 return Err(Refusal::NoUnit.at(i + 1));
             }
-            indices[i] = matched(self.aux, index, word);
+            indices[i] = matched(aux, index, word);
         }
         Ok(())
     }
@@ -135,6 +142,7 @@ impl<'a> Open<'a> {
             → Done (lookup_of u (lent self.now.h.now self.now.g.now self.now.aux.now)) keys.now old indices.new (length keys.now) }
     {
         let mut next = first;
+        // A while: each run goes on behind the key at which the one before it stopped.
         while let Err(stop) = next {
             indices[stop.place - 1] = 0;
             next = self.run(keys, stop.place, indices);

@@ -5,3 +5,4 @@ pub mod Placing
 pub mod Parts
 pub mod Known
 pub mod Promise
+pub mod One

@@ -37,7 +37,7 @@ log2_least m q h = go _ (found_from (λ p. leb m (2 ^ p)) m 0)
     go : (r : ℕ) → FoundFrom (λ p. leb m (2 ^ p)) m 0 r → r ≤ q
     go r f = ⊎_elim (λ l. l) (λ l. absurd (omega (arith, leb-false m (2 ^ q) (f.before q (omega arith) l)))) (le_or_lt r q)
 
-log2_is : (m q : ℕ) → m ≤ 2 ^ q → ((p : ℕ) → p < q → 2 ^ p < m) → q ≡ log2_up m
+pub log2_is : (m q : ℕ) → m ≤ 2 ^ q → ((p : ℕ) → p < q → 2 ^ p < m) → q ≡ log2_up m
 log2_is m q h below =
     ⊎_elim
     (λ l. omega (arith, log2_least m q h))

@@ -31,7 +31,7 @@ pub enum Refusal {
     NotApart,
     // H is too short for the rows.
     ShortRows,
-    // A row has no place; with so many cells it would have one.
+    // A row has no place; with so many cells it would have one. An addition does not work them out and says 0.
     NoPlace(usize),
     // The record and the tables are no unit.
     NoUnit,

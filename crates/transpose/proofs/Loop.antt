@@ -143,7 +143,7 @@ module _ (j mask : ℕ) (d : Distance j mask) (xs : List ℕ) where
       let e : k + suc n ≡ k + n + 1 = omega arith in
       rw (e, ← low_at j d.pos k n q) (part_more (k + n) (omega arith) (swapped_words j mask (2 * k) n ys) (part_some k ys q h p n (omega arith)))
 
-  blocks_fit : (k : ℕ) (ys : List ℕ) → k < 32 → Blocks j k xs ys → k + j ≤ 32
+  pub blocks_fit : (k : ℕ) (ys : List ℕ) → k < 32 → Blocks j k xs ys → k + j ≤ 32
   blocks_fit k ys h s = block_le j d.pos d.blocks k h s.whole
 
   -- a turn of the loop: ys at its head, zs at its end

@@ -3,12 +3,13 @@ use Prim.Native.Nat.{ℕ, ◌≤◌}
 use mathlib.Core.Path.{◌≡◌, refl, sym, ap, ap₂, ◌∙◌}
 use mathlib.Core.Bool.{true}
 use mathlib.Core.List.{List, [], ◌∷◌}
-use borrow.Author.Tests.{leb-true}
+use borrow.Author.Tests.{ne_eqb, leb-true}
 use lib.Dec.{eqb, leb}
 use lib.ListN.{length}
 use Rattle.std.specs.List.{position}
 use Rattle.std.proofs.lemmas.List.{map-id}
 use Rattle.lists.specs.First.{first_of, place_number}
+use Rattle.lists.specs.Members.{All}
 use Rattle.lists.proofs.Finding.Firsts.{first_length}
 use Rattle.lists.proofs.Finding.Places.{place_first}
 use Rattle.refusal.specs.declared.Refusal.{Refusal}
@@ -20,6 +21,12 @@ use Rattle.print.specs.Sentence.{sentence, sentence_of}
 use Rattle.print.proofs.Sentences.{sentence_few}
 use Rattle.fault.specs.Fault.{Fault}
 use Rattle.why.specs.Why.{form_in, fault_forms, long_form, fault_text, built_forms, other_form, vector_at, first_equal, built_text}
+
+-- a key that no entry has
+pub form_none : (fs : List (ℕ × List ℕ)) (other : List ℕ) (key : ℕ) → All (λ f. key ≡ f.0 → ⊥) fs → form_in fs other key ≡ other
+unfolding form_in
+form_none [] other key a = refl
+form_none (f ∷ fs) other key a = rw (ne_eqb key f.0 a.0, form_in) (form_none fs other key a.1)
 
 -- a sentence with the form that was looked up
 pub said : (numbers out form found : List ℕ) → found ≡ form → leb (length form) max_fields ≡ true → sentence_of form numbers out ≡ fitted (sentence numbers found) out

@@ -33,7 +33,7 @@ says_is (w ∷ ws) (b ∷ bs) =
 module _ (given : List ℕ) where
   module _ (no_show : says show_word given ≡ false) where
     module _ (no_list : says list_word given ≡ false) where
-      asks_add : opens find_word given ≡ false → opens add_word given ≡ asks_file given
+      pub asks_add : opens find_word given ≡ false → opens add_word given ≡ asks_file given
       unfolding asks_file
       asks_add h = rw (no_show, no_list, h, asks_file)
 

@@ -18,7 +18,7 @@ use Rattle.recover.proofs.Every.{listed_sound, listed_formed, listed_firsts}
 use Rattle.build.specs.Built.{Built, told}
 use Rattle.build.specs.Build.{after, refused}
 use Rattle.add.specs.declared.Seat.{Seat}
-use Rattle.add.specs.Inner.Seats.{FirstsAre, NumberAt}
+use Rattle.add.specs.Inner.Seats.{FirstsAre, NumberFound}
 use Rattle.add.specs.Inner.Moves.{cells_in, placed_by}
 use Rattle.add.proofs.Seating.{seat_column}
 use Rattle.add.proofs.Moving.Outcomes.{placed_is}
@@ -48,8 +48,8 @@ size c = omega (arith, c.well_formed)
 
 -- the number whose first cell is that of x
 number_is : (c : After-number_at-number) → FirstsAre c.args.unit (lent c.args.h.now c.args.g.now c.args.aux.now) c.listed.new.firsts
-    → NumberAt c.args.unit (lent c.args.h.now c.args.g.now c.args.aux.now) (cell_in c.args.unit (lent c.args.h.now c.args.g.now c.args.aux.now) c.args.x) c.number_at-number.result
-number_is c f = subst (λ (p : Seat). NumberAt c.args.unit (lent c.args.h.now c.args.g.now c.args.aux.now) (p.displacement + p.column) c.number_at-number.result) c.find_seat-seat.ensures.seat (c.number_at-number.ensures c.args.h.now c.args.aux.now f)
+    → NumberFound c.args.unit (lent c.args.h.now c.args.g.now c.args.aux.now) (cell_in c.args.unit (lent c.args.h.now c.args.g.now c.args.aux.now) c.args.x) c.number_at-number.result
+number_is c f = subst (λ (p : Seat). NumberFound c.args.unit (lent c.args.h.now c.args.g.now c.args.aux.now) (p.displacement + p.column) c.number_at-number.result) c.find_seat-seat.ensures.seat (c.number_at-number.ensures c.args.h.now c.args.aux.now f)
 
 pub returns-then-not-listed : goal.returns-then-not-listed
 returns-then-not-listed c =

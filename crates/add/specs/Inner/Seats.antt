@@ -23,7 +23,12 @@ seat_of u h x =
 abbrev pub FirstsAre : Record → Tables → List ℕ → Type 0
 FirstsAre u t firsts = (i : ℕ) → 0 < i → i ≤ u.k → get_or firsts i 0 ≡ first_cell u t i
 
--- r is the number whose first cell this is, where there is one
-pub record NumberAt (u : Record) (t : Tables) (cell : ℕ) (r : Option ℕ) : Type 0 where
+-- r is the number whose first cell this is; 0 where there is none
+pub record NumberAt (u : Record) (t : Tables) (cell r : ℕ) : Type 0 where
+  pub only : (i : ℕ) → 0 < i → i ≤ u.k → first_cell u t i ≡ suc cell → r ≡ i
+  pub some : 0 < r → (r ≤ u.k) × (first_cell u t r ≡ suc cell)
+
+-- the same of a number that may be none
+pub record NumberFound (u : Record) (t : Tables) (cell : ℕ) (r : Option ℕ) : Type 0 where
   pub only : (i : ℕ) → 0 < i → i ≤ u.k → first_cell u t i ≡ suc cell → r ≡ Some i
   pub some : (i : ℕ) → r ≡ Some i → (0 < i) × (i ≤ u.k) × (first_cell u t i ≡ suc cell)

@@ -38,7 +38,7 @@ module _ (number size at : ℕ) (before : List ℕ) where
       let e : at + size - i ≡ suc (at + size - suc i) = omega arith in
       record { within = omega arith; long = length-set l i (rest % 256) ∙ p.long; is = rw (add-one i) (rw e at p.is) }
 
-  putting_end : (l : List ℕ) (rest i : ℕ) → at + size ≤ i → Putting number size at before l rest i → l ≡ sets before at (little_of size number)
+  pub putting_end : (l : List ℕ) (rest i : ℕ) → at + size ≤ i → Putting number size at before l rest i → l ≡ sets before at (little_of size number)
   unfolding little_of
   putting_end l rest i h p = let e : at + size - i ≡ 0 = omega arith in rw e at p.is
 

@@ -110,6 +110,14 @@ module _ (b : List ℕ) (at end from : ℕ) (e : end ≡ min check_at (length b)
 
 -- ---- the opening
 
+module _ (o : Opening) (at : ℕ) (b : List ℕ) where
+  -- a block without room for an opening
+  pub laid_short : length b < payload_at → laid_out o at b ≡ false
+  unfolding laid_out
+  laid_short h =
+      let no : same (opening_of o) (take payload_at b) ≡ false = same_other (opening_of o) (take payload_at b) (λ e. omega (arith, length_opening o, length-take payload_at b)) in
+      rw no
+
 pub laid_is : (o : Opening) (at : ℕ) (b bytes : List ℕ) → bytes ≡ opening_of o → laid_out o at b ≡ (pointwise eqb bytes (take (length bytes) b) && blank_from at b)
 unfolding laid_out
 laid_is o at b bytes e =

@@ -71,6 +71,16 @@ lent_take (suc from) n zero l h = absurd (omega arith)
 lent_take (suc from) n (suc m) [] h = refl
 lent_take (suc from) n (suc m) (x ∷ l) h = lent_take from n m l (omega arith)
 
+-- the groups are half as many as their members at most
+sizes_few : (ss : List ℕ) → All (λ s. 2 ≤ s) ss → 2 * length ss ≤ total ss
+unfolding total
+sizes_few [] a = omega arith
+sizes_few (s ∷ ss) a = omega (arith, a.0, sizes_few ss a.1)
+
+pub groups_few : {k : ℕ} {g : Groups} → Shape k g → 2 * g.count ≤ k
+groups_few {k} {g} shape =
+    omega (arith, length-take-le g.count g.sizes shape.places, sizes_few (sizes_of g) shape.cuts.many, shape.cuts.sum, shape.cuts.few)
+
 module _ (b : ℕ → ℕ) {k : ℕ} {g : Groups} (shape : Shape k g) {out : Groups} {from i : ℕ}
     (s : Splitting b (sizes_of g) (order_of g) out from i) (h : i < length (sizes_of g)) where
   -- the size of the group, and its members

@@ -48,11 +48,11 @@ module _ (group before : List ℕ) (at : ℕ) where
     others = take_all (length group - (i + 1)) (drop (i + 1) group) (omega (arith, length-drop (i + 1) group))
 
     module _ (r : at + length (pairs_of group) ≤ length before) where
-      room : w + (length group - (i + 1)) ≤ length out
-      room = omega (arith, place, p.size)
+      pub pairing_room : w + (length group - (i + 1)) ≤ length out
+      pairing_room = omega (arith, place, p.size)
 
       pub pairing_part : w + length (lent (i + 1) (length group) group) ≤ length out
-      pairing_part = rw (others, length-drop) room
+      pairing_part = rw (others, length-drop) pairing_room
 
     pub pairing_more : (out' : List ℕ) → out' ≡ sets out w (map (bit_xor (get_or group i d)) (lent (i + 1) (length group) group))
         → Pairing group before at out' (w + length (lent (i + 1) (length group) group)) (i + 1)

@@ -1,31 +1,30 @@
-use native.Mathlib.Omega.{arith}
-use borrow.Author.Rules.{rules}
-use mathlib.Core.Path.{sym, ap, ◌∙◌}
-use Rattle.std.proofs.Common.{tests}
-use Rattle.std.proofs.Common.{Some}
-use Rattle.std.proofs.lemmas.List.{length_push}
-use Rattle.input.specs.Decimal.{good_field}
-use Rattle.input.specs.Fields.{fields}
-use Rattle.input.proofs.Decimals.{value_some, value_none}
-use Rattle.input.proofs.Reading.Numbers.{parts, loop_turn, loop_end, counting_more, counting_bad, counting_end}
+use mathlib.Core.Path.{sym, ◌∙◌}
+use Rattle.input.proofs.Reading.Bytes.{going_none, going_part, going_empty, going_more, going_bad, going_end, going_short}
 use Rattle.input.proofs.count.Goals as goal
+use Rattle.input.proofs.count.Goals.{then-separator+in_ok-number, else-separator+in_ok-grown}
 
-pub returns-in_err-value_of : goal.returns-in_err-value_of
-returns-in_err-value_of c =
-    let s = c.split-field-items.ensures in
-    let t = loop_turn (fields c.args.text.now) (parts _ _ _ c.into_iter-field-iterator.ensures.into_iter_gives c.args.text.now s.rest s.done s.closure (λ x r q k. search (rules, tests))) c.loop-field.yielded _ c.loop-field.yielded_by _ _ c.next.ensures.steps c.in-Some.field c.in-Some.is in
-    c.from_residual.ensures ∙ sym (counting_bad c.loop-field.invariant.3 t.0 (ap good_field (sym t.1) ∙ value_none _ (sym c.value_of.ensures ∙ c.in_err-value_of.was)))
+pub loop-b-init : goal.loop-b-init
+loop-b-init c = going_none _
 
-pub loop-field-preserved : goal.loop-field-preserved
-loop-field-preserved c =
-    let s = c.split-field-items.ensures in
-    let t = loop_turn (fields c.args.text.now) (parts _ _ _ c.into_iter-field-iterator.ensures.into_iter_gives c.args.text.now s.rest s.done s.closure (λ x r q k. search (rules, tests))) c.loop-field.yielded _ c.loop-field.yielded_by _ _ c.next.ensures.steps c.in-Some.field c.in-Some.is in
-    let g = ap good_field (sym t.1) ∙ (value_some _ _ (sym c.value_of.ensures ∙ c.in_ok-value_of.was)).0 in
-    let n = length_push c.loop-field.yielded c.in-Some.field in
-    (search rules, search rules, omega (arith, n, c.loop-field.invariant.2), rw n (counting_more c.loop-field.invariant.3 t.0 g))
+pub returns-in_err-number : goal.returns-in_err-number
+returns-in_err-number c =
+    c.from_residual.ensures ∙ sym (going_empty c.loop-b.invariant c.loop-b-test.true (sym c.separator.ensures ∙ c.if-separator.true) c.in_err-number.was)
+
+pub returns-in_err-grown : goal.returns-in_err-grown
+returns-in_err-grown c =
+    c.from_residual-in_err-grown.ensures
+    ∙ sym (going_bad c.loop-b.invariant c.loop-b-test.true (sym c.separator.ensures ∙ c.if-separator.false) (sym c.grown.ensures ∙ c.in_err-grown.was))
+
+pub loop-b-preserved : goal.loop-b-preserved
+loop-b-preserved c = elim c.if-separator.branch [
+  | then-separator+in_ok-number w ↦
+      rw (w.found-is, w.number-is) (going_part c.loop-b.invariant c.loop-b-test.true (sym c.separator.ensures ∙ w.if-separator.true) w.in_ok-number.field-0 w.in_ok-number.was)
+  | else-separator+in_ok-grown w ↦
+      rw (w.found-is, w.number-is) (going_more c.loop-b.invariant c.loop-b-test.true (sym c.separator.ensures ∙ w.if-separator.false) w.in_ok-grown.field-0 (sym w.grown.ensures ∙ w.in_ok-grown.was))
+]
+
+pub returns-in_err-number-2 : goal.returns-in_err-number-2
+returns-in_err-number-2 c = c.from_residual-in_err-number-2.ensures ∙ sym (going_short c.loop-b.invariant c.loop-b-test.false c.in_err-number-2.was)
 
 pub returns : goal.returns
-returns c =
-    let s = c.split-field-items.ensures in
-    let l = loop_end (fields c.args.text.now) (parts _ _ _ c.into_iter-field-iterator.ensures.into_iter_gives c.args.text.now s.rest s.done s.closure (λ x r q k. search (rules, tests))) c.loop-field.yielded _ c.loop-field.yielded_by _ _ c.next.ensures.steps c.in-None.is in
-    ap Some c.loop-field.invariant.2 ∙ sym (counting_end c.loop-field.invariant.3 l)
+returns c = sym (going_end c.loop-b.invariant c.loop-b-test.false c.in_ok-number-2.field-0 c.in_ok-number-2.was)

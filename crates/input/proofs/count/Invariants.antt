@@ -1,12 +1,5 @@
-use mathlib.Core.Path.{◌≡◌}
-use lib.ListN.{length}
-use Rattle.input.specs.Fields.{fields}
-use Rattle.input.proofs.Reading.Numbers.{Counting}
+use Rattle.input.proofs.Reading.Bytes.{Going}
 use Rattle.input.proofs.count.Given as goal
 
-abbrev pub invariant-loop-field : goal.invariant-loop-field
-invariant-loop-field l =
-    (goal.iterator-loop-field).can_next l.field-iterator
-    × (goal.iterator-loop-field).is_finite l.field-iterator
-    × (l.found ≡ length l.yielded)
-    × Counting (fields l.text) (length l.yielded)
+abbrev pub invariant-loop-b : goal.invariant-loop-b
+invariant-loop-b l = Going l.text l.found l.number l.b-index

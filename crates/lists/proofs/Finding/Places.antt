@@ -1,13 +1,14 @@
 -- The first entry that passes a test of entries alone, by its place. Assumes nothing.
 use Prim.Native.Nat.{ℕ, suc, ◌+◌}
+use native.Mathlib.Nat.{suc_inj}
 use native.Mathlib.Omega.{arith}
-use mathlib.Core.Path.{◌≡◌, refl, sym, ◌∙◌}
+use mathlib.Core.Path.{◌≡◌, refl, sym, ap, ◌∙◌}
 use mathlib.Core.Bool.{Bool, true, false, cond}
 use mathlib.Core.List.{List, [], ◌∷◌, map}
 use lib.Dec.{ltb}
 use lib.ListN.{length}
 use Rattle.std.specs.List.{position, position_or_len}
-use Rattle.std.proofs.Common.{None, Some}
+use Rattle.std.proofs.Common.{Option, None, Some}
 use Rattle.std.proofs.lemmas.Bool.Decides.{nat_tests}
 use Rattle.lists.specs.First.{first_in, first_of, place_number}
 use Rattle.lists.proofs.Finding.Firsts.{first_here, first_on}
@@ -43,3 +44,10 @@ module _ {A B : Type 0} (f : A → B) (test : B → Bool) where
   pub place_first : (xs : List A) → place_number (position (λ x. test (f x)) xs) ≡ first_of (λ before y. test y) (map f xs)
   unfolding first_of
   place_first xs = sym (place_in [] xs 1 ∙ numbered_place (position_or_len (λ x. test (f x)) xs) (length xs))
+
+-- a number is that of one place
+pub place_one : (r s : Option ℕ) → place_number r ≡ place_number s → r ≡ s
+place_one None None e = refl
+place_one None (Some j) e = absurd (omega (arith, e))
+place_one (Some i) None e = absurd (omega (arith, e))
+place_one (Some i) (Some j) e = ap Some (suc_inj e)

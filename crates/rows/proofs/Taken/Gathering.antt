@@ -22,7 +22,7 @@ use Rattle.rows.specs.Fit.{is_free}
 use Rattle.rows.specs.Inner.Taken.{taken_words, bit_in, shut_bit, Taken}
 use Rattle.rows.proofs.Fits.Needed.{past_free}
 
-shut_low : (b : Bool) → shut_bit b < 2
+pub shut_low : (b : Bool) → shut_bit b < 2
 shut_low true = omega arith
 shut_low false = omega arith
 

@@ -1,7 +1,8 @@
 -- What is known of the positions of a variable that is not faulty. Assumes nothing.
 use Rattle.std.proofs.lemmas.Bool.{or_parts}
-use Rattle.std.proofs.Common.{◌≡◌, ℕ, ◌<◌, ◌≤◌, false, ◌||◌, eqb, ltb, leb, arith, ltb-false, leb-false}
+use Rattle.std.proofs.Common.{◌≡◌, ℕ, ◌<◌, ◌≤◌, false, ◌||◌, eqb, ltb, leb, arith, ltb-false, le-ltb, leb-false}
 use borrow.Author.Tests.{eqb-false}
+use Rattle.vectors.specs.declared.Kind.{Kind}
 use Rattle.vectors.specs.declared.Kind.TheVariants.{One, Two}
 use Rattle.vectors.specs.Variable.{faulty}
 
@@ -19,3 +20,12 @@ right_two n i j h =
     let l : i < j = leb-false j i g.1 in
     let m : j ≤ n = ltb-false n j f.1 in
     ((omega arith, omega arith), (omega arith, m))
+
+-- a variable within n inputs is within more
+pub faulty_within : (n m : ℕ) (k : Kind) → n ≤ m → faulty n k ≡ false → faulty m k ≡ false
+faulty_within n m (One i) l h =
+    let f = or_parts (eqb i 0) (ltb n i) h in
+    rw (f.0, le-ltb m i (omega (arith, ltb-false n i f.1)))
+faulty_within n m (Two i j) l h =
+    let f = or_parts (eqb i 0 || leb j i) (ltb n j) h in
+    rw (f.0, le-ltb m j (omega (arith, ltb-false n j f.1)))

@@ -1,8 +1,11 @@
 use native.Mathlib.Omega.{arith}
-use Rattle.print.proofs.Decimals.Digits.{length_word}
+use Rattle.print.proofs.Decimals.Digits.{decimal_one, length_word}
 use Rattle.print.proofs.Writing.Spelling.{spelling_none, spelling_in, spelling_more, spelling_end}
 use Rattle.print.proofs.Writing.Pieces.{written_not}
 use Rattle.print.proofs.decimal.put.Goals as goal
+
+pub returns-then-n-lt10 : goal.returns-then-n-lt10
+returns-then-n-lt10 c = rw (decimal_one c.args.n c.if-n-lt10.true) c.byte.ensures
 
 pub overflow_add-end : goal.overflow_add-end
 overflow_add-end c =
