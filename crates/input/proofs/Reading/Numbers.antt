@@ -1,4 +1,4 @@
--- The numbers of a text, counted and then written one by one. Assumes nothing.
+-- The numbers of a text, written one by one. Assumes nothing.
 use Prim.Native.Nat.{ℕ, zero, suc, ◌+◌, ◌-◌, ◌≤◌, ◌<◌}
 use native.Mathlib.Omega.{arith}
 use native.Mathlib.Numerals.{add-one}
@@ -6,7 +6,7 @@ use mathlib.Core.Path.{◌≡◌, refl, sym, ap, ◌∙◌, subst}
 use mathlib.Core.Bool.{Bool, true, false, cond, false≢true}
 use mathlib.Core.List.{List, [], ◌∷◌, map}
 use Rattle.std.proofs.Common.{zero-add}
-use lib.ListN.{length, get_or, take, drop, set, length-drop, drop_of_length-le}
+use lib.ListN.{length, get_or, take, drop, set, length-drop}
 use lib.Seq.{drop-cons, take-suc, take_all, take-suc-set}
 use denote.Param.Members.{Mut}
 use denote.Ref.{Bor}
@@ -22,9 +22,7 @@ use Rattle.std.specs.Slice.Iter.{split_rest, split_done, split_callee, split_ste
 use Rattle.std.proofs.lemmas.Iterator.Splits.{YieldsList-from_slice_split}
 use Rattle.std.specs.Prelude.{Option, Some, None}
 use Rattle.std.specs.List.{slice_split, onto_first}
-use Rattle.std.proofs.lemmas.List.Splits.{length-slice_split}
 use Rattle.std.proofs.lemmas.List.Recursion.{same_from_clauses}
-use Rattle.std.proofs.lemmas.List.Sums.{count_by-le-length}
 use Rattle.std.proofs.lemmas.Iterator.{YieldsList}
 use Rattle.lists.proofs.Tests.{and_true}
 use Rattle.lists.proofs.Entries.Members.{get_d_map}
@@ -32,7 +30,7 @@ use Rattle.input.specs.Fields.{separator, onto, fields}
 use Rattle.lists.specs.Members.{every}
 use Rattle.input.specs.Decimal.{good_field, value_of}
 use Rattle.input.specs.Input.{input_from}
-use Rattle.input.specs.Inner.{value_in, count_of}
+use Rattle.input.specs.Inner.{value_in}
 use Rattle.input.proofs.Decimals.{value_some, value_none}
 
 onto_is : (b : ℕ) (l : List (List ℕ)) → onto b l ≡ onto_first b l
@@ -52,38 +50,6 @@ fields_step b bs = go (separator b)
 pub fields_split : (text : List ℕ) → slice_split separator text ≡ fields text
 unfolding fields
 fields_split text = same_from_clauses (slice_split separator) fields (λ x l. cond (separator x) ([] ∷ l) (onto_first x l)) refl (λ _ _. refl) fields_step text
-
-pub fields_few : (text : List ℕ) → length (fields text) ≤ length text + 1
-fields_few text = rw (← fields_split text) (omega (arith, length-slice_split separator text, count_by-le-length separator text))
-
--- ---- counted
-
--- the first i fields are numbers
-pub record Counting (fs : List (List ℕ)) (i : ℕ) : Type 0 where
-  pub within : i ≤ length fs
-  pub is : every good_field fs ≡ every good_field (drop i fs)
-
-pub counting_none : (fs : List (List ℕ)) → Counting fs 0
-counting_none fs = record { within = omega arith; is = refl }
-
-module _ {fs : List (List ℕ)} {i : ℕ} (c : Counting fs i) where
-  module _ (h : i < length fs) where
-    pub counting_more : good_field (get_or fs i []) ≡ true → Counting fs (i + 1)
-    unfolding every
-    counting_more g = record { within = omega arith; is = c.is ∙ rw (drop-cons fs i [] h, add-one i, g) }
-
-    pub counting_bad : good_field (get_or fs i []) ≡ false → count_of fs ≡ None
-    unfolding every count_of
-    counting_bad b =
-        let n : every good_field fs ≡ false = c.is ∙ rw (drop-cons fs i [] h, b) in
-        rw (n, count_of)
-
-  pub counting_end : length fs ≤ i → count_of fs ≡ Some i
-  unfolding every count_of
-  counting_end h =
-      let e : length fs ≡ i = omega (arith, c.within) in
-      let y : every good_field fs ≡ true = c.is ∙ rw (drop_of_length-le fs {i = i} h) in
-      rw (y, count_of) (ap Some e)
 
 -- ---- written
 
